@@ -1,0 +1,80 @@
+-- A row in the words of a lent table: "start, capacity in bytes, size, condition, access". Row i is the words from i * rowWidth on.
+use Prim.Native.Nat.{ℕ, _+_, _*_, _/_}
+use mathlib.Core.List.{List, [], _∷_}
+use mathlib.Core.Bool.{cond}
+use lib.ListN.{getD}
+use lib.Seq.{sets}
+use lib.Dec.{eqb}
+use Rattle.types.specs.declared.Row.{Row}
+use Rattle.types.specs.declared.Condition.{Condition}
+use Rattle.types.specs.declared.Condition.the-variants as condition
+use Rattle.types.specs.declared.Access.{Access}
+use Rattle.types.specs.declared.Access.the-variants as access
+use Rattle.types.specs.Codes.{conditionCode, accessCode}
+use Rattle.table.specs.declared.Slot.{Slot}
+use Rattle.table.specs.declared.Slot.the-variants.{Good, Impossible}
+use Rattle.table.specs.declared.ConditionRead.{ConditionRead}
+use Rattle.table.specs.declared.ConditionRead.the-variants as cr
+use Rattle.table.specs.declared.AccessRead.{AccessRead}
+use Rattle.table.specs.declared.AccessRead.the-variants as ar
+
+-- the words of a row
+abbrev pub rowWidth : ℕ
+rowWidth = 5
+
+-- the rows that so many words hold
+abbrev pub rowsLent : ℕ → ℕ
+rowsLent words = words / rowWidth
+
+-- a row's words
+abbrev pub rowWords : Row → List ℕ
+rowWords r = r .start ∷ r .capacity ∷ r .size ∷ conditionCode (r .condition) ∷ accessCode (r .access) ∷ []
+
+-- the condition of this code, or none
+abbrev pub conditionRead : ℕ → ConditionRead
+conditionRead n =
+    cond (eqb n 0) (cr.Is condition.Healthy)
+    (cond (eqb n 1) (cr.Is condition.ReadOnly) (cond (eqb n 2) (cr.Is condition.Offline) cr.Bad))
+
+-- the access of this code, or none
+abbrev pub accessRead : ℕ → AccessRead
+accessRead n =
+    cond (eqb n 0) (ar.Is access.Nothing)
+    (cond (eqb n 1) (ar.Is access.Read) (cond (eqb n 2) (ar.Is access.Write) ar.Bad))
+
+-- codes that no row has are an impossible row
+abbrev pub slotWith : ℕ → ℕ → ℕ → ConditionRead → AccessRead → Slot
+slotWith s c z (cr.Is k) (ar.Is a) = Good (record { start = s; capacity = c; size = z; condition = k; access = a })
+slotWith s c z (cr.Is k) ar.Bad = Impossible
+slotWith s c z cr.Bad a = Impossible
+
+abbrev pub slotOf : ℕ → ℕ → ℕ → ℕ → ℕ → Slot
+slotOf s c z k a = slotWith s c z (conditionRead k) (accessRead a)
+
+-- word k of row i
+abbrev pub wordAt : List ℕ → ℕ → ℕ → ℕ
+wordAt t i k = getD t (i * rowWidth + k) 0
+
+-- row i of a table
+unfoldable pub rowAt : List ℕ → ℕ → Slot
+rowAt t i = slotOf (wordAt t i 0) (wordAt t i 1) (wordAt t i 2) (wordAt t i 3) (wordAt t i 4)
+
+-- the table with a row at i
+unfoldable pub setRow : List ℕ → ℕ → Row → List ℕ
+setRow t i r = sets t (i * rowWidth) (rowWords r)
+
+-- "Healthy: .. access write"
+abbrev pub healthyRow : ℕ → ℕ → ℕ → Row
+healthyRow s c z = record { start = s; capacity = c; size = z; condition = condition.Healthy; access = access.Write }
+
+-- "kept as offline, size 0, access none"
+abbrev pub offlineRow : ℕ → ℕ → Row
+offlineRow s c = record { start = s; capacity = c; size = 0; condition = condition.Offline; access = access.Nothing }
+
+-- the row with another size
+abbrev pub withSize : Row → ℕ → Row
+withSize r z = record { start = r .start; capacity = r .capacity; size = z; condition = r .condition; access = r .access }
+
+-- the row with the size, condition and access that a recovery gives it
+abbrev pub recoveredTo : Row → ℕ → Condition → Access → Row
+recoveredTo r z k a = record { start = r .start; capacity = r .capacity; size = z; condition = k; access = a }

@@ -1,0 +1,175 @@
+// A lent table: `ROW_WORDS` words to a row, the start in sectors, the capacity and the size in bytes, and the codes of condition and access.
+// Everything that takes a row apart or puts one together is here.
+ghost use mathlib.Core.Path.{_≡_};
+ghost use Prim.Native.Nat.{_<_};
+ghost use lib.ListN.{length};
+ghost use Rattle.table.specs.Rows.{rowsLent, conditionRead, accessRead, slotWith, slotOf, rowAt, setRow, healthyRow, offlineRow, withSize, recoveredTo};
+use types::Access;
+use types::Condition;
+use types::Row;
+
+// The words of a row.
+pub const ROW_WORDS: usize = 5;
+
+// What a row's words say: a row, or that a code is none of the codes.
+pub enum Slot {
+    Good(Row),
+    Impossible,
+}
+
+// What the word of a condition says.
+pub enum ConditionRead {
+    Is(Condition),
+    Bad,
+}
+
+// What the word of an access says.
+pub enum AccessRead {
+    Is(Access),
+    Bad,
+}
+
+// How many rows so many words hold. Words left over are never read or written.
+pub fn rows_lent(words: usize) -> usize
+    ensures { λ r. ⌜ r ≡ rowsLent words ⌝ }
+{
+    words / ROW_WORDS
+}
+
+fn condition_read(code: u64) -> ConditionRead
+    ensures { λ r. ⌜ r ≡ conditionRead code ⌝ }
+{
+    match code {
+        0 => ConditionRead::Is(Condition::Healthy),
+        1 => ConditionRead::Is(Condition::ReadOnly),
+        2 => ConditionRead::Is(Condition::Offline),
+        _ => ConditionRead::Bad,
+    }
+}
+
+fn access_read(code: u64) -> AccessRead
+    ensures { λ r. ⌜ r ≡ accessRead code ⌝ }
+{
+    match code {
+        0 => AccessRead::Is(Access::Nothing),
+        1 => AccessRead::Is(Access::Read),
+        2 => AccessRead::Is(Access::Write),
+        _ => AccessRead::Bad,
+    }
+}
+
+fn slot_with(
+    start: u64,
+    capacity: u64,
+    size: u64,
+    condition: ConditionRead,
+    access: AccessRead,
+) -> Slot
+    ensures { λ r. ⌜ r ≡ slotWith start capacity size condition access ⌝ }
+{
+    let ConditionRead::Is(c) = condition else {
+        return Slot::Impossible;
+    };
+    let AccessRead::Is(a) = access else {
+        return Slot::Impossible;
+    };
+    Slot::Good(Row {
+        start,
+        capacity,
+        size,
+        condition: c,
+        access: a,
+    })
+}
+
+fn slot_of(start: u64, capacity: u64, size: u64, condition: u64, access: u64) -> Slot
+    ensures { λ r. ⌜ r ≡ slotOf start capacity size condition access ⌝ }
+{
+    slot_with(
+        start,
+        capacity,
+        size,
+        condition_read(condition),
+        access_read(access),
+    )
+}
+
+// The row of number `i`.
+pub fn row_at(t: &[u64], i: usize) -> Slot
+    requires { ⌜ i < rowsLent (length (now t)) ⌝ }
+    ensures { λ r. ⌜ r ≡ rowAt (now (t .entry)) i ⌝ }
+{
+    let b = i * ROW_WORDS;
+    slot_of(t[b], t[b + 1], t[b + 2], t[b + 3], t[b + 4])
+}
+
+// Stores a row at number `i`.
+pub fn put_row(t: &mut [u64], i: usize, row: Row)
+    requires { ⌜ i < rowsLent (length (now t)) ⌝ }
+    ensures { λ _. ⌜ now (t .exit) ≡ setRow (now (t .entry)) i row ⌝ }
+{
+    let b = i * ROW_WORDS;
+    let c = row.condition;
+    let a = row.access;
+    let condition = types::condition_code(c);
+    let access = types::access_code(a);
+    t[b] = row.start;
+    t[b + 1] = row.capacity;
+    t[b + 2] = row.size;
+    t[b + 3] = condition;
+    t[b + 4] = access;
+}
+
+// A file that is found healthy at mount.
+pub fn healthy_row(start: u64, capacity: u64, size: u64) -> Row
+    ensures { λ r. ⌜ r ≡ healthyRow start capacity size ⌝ }
+{
+    Row {
+        start,
+        capacity,
+        size,
+        condition: Condition::Healthy,
+        access: Access::Write,
+    }
+}
+
+// A file that is found read-only or offline at mount.
+pub fn offline_row(start: u64, capacity: u64) -> Row
+    ensures { λ r. ⌜ r ≡ offlineRow start capacity ⌝ }
+{
+    Row {
+        start,
+        capacity,
+        size: 0,
+        condition: Condition::Offline,
+        access: Access::Nothing,
+    }
+}
+
+// The row with another size.
+pub fn with_size(row: Row, size: u64) -> Row
+    ensures { λ r. ⌜ r ≡ withSize row size ⌝ }
+{
+    let condition = row.condition;
+    let access = row.access;
+    Row {
+        start: row.start,
+        capacity: row.capacity,
+        size,
+        condition,
+        access,
+    }
+}
+
+// The row with what a recovery sets.
+pub fn recovered_to(row: Row, size: u64, condition: Condition, access: Access) -> Row
+    ensures { λ r. ⌜ r ≡ recoveredTo row size condition access ⌝ }
+{
+    Row {
+        start: row.start,
+        capacity: row.capacity,
+        size,
+        condition,
+        access,
+    }
+}

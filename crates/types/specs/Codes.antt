@@ -1,0 +1,44 @@
+-- The number that stands for each kind, condition, access, policy and command, wherever one is written as a number.
+use Prim.Native.Nat.{ℕ}
+use Rattle.types.specs.declared.FileKind.{FileKind}
+use Rattle.types.specs.declared.FileKind.the-variants.{Conventional, Sequential}
+use Rattle.types.specs.declared.Condition.{Condition}
+use Rattle.types.specs.declared.Condition.the-variants as condition
+use Rattle.types.specs.declared.Access.{Access}
+use Rattle.types.specs.declared.Access.the-variants as access
+use Rattle.types.specs.declared.ErrorPolicy.{ErrorPolicy}
+use Rattle.types.specs.declared.ErrorPolicy.the-variants.{RemountRo, ZoneRo, ZoneOffline, Repair}
+use Rattle.types.specs.declared.CommandKind.{CommandKind}
+use Rattle.types.specs.declared.CommandKind.the-variants as command
+
+-- "kind byte 0 cnv or 1 seq"
+abbrev pub kindCode : FileKind → ℕ
+kindCode Conventional = 0
+kindCode Sequential = 1
+
+-- from good to bad, as in "its condition may not be better than a seq row's (healthy, read-only, offline)"
+abbrev pub conditionCode : Condition → ℕ
+conditionCode condition.Healthy = 0
+conditionCode condition.ReadOnly = 1
+conditionCode condition.Offline = 2
+
+-- "access (write, read, none)", from none up
+abbrev pub accessCode : Access → ℕ
+accessCode access.Nothing = 0
+accessCode access.Read = 1
+accessCode access.Write = 2
+
+-- the rows of the recovery table, in its order
+abbrev pub policyCode : ErrorPolicy → ℕ
+policyCode RemountRo = 0
+policyCode ZoneRo = 1
+policyCode ZoneOffline = 2
+policyCode Repair = 3
+
+-- the letters R W Z F S of the tape, in this order
+abbrev pub commandCode : CommandKind → ℕ
+commandCode command.Read = 0
+commandCode command.Write = 1
+commandCode command.Reset = 2
+commandCode command.Finish = 3
+commandCode command.Flush = 4
