@@ -13,7 +13,7 @@ use borrow.Author.Tests.{eqb-true, eq-eqb, lt-ltb, le-ltb}
 use Rattle.types.specs.declared.Volume.{Volume}
 use Rattle.types.specs.declared.FileKind.{FileKind}
 use Rattle.types.specs.declared.FileKind.the-variants.{Conventional, Sequential}
-use Rattle.types.proofs.Tests.{both, and-left, and-right}
+use Rattle.types.proofs.Tests.{both, and-left, and-right, cases}
 use Rattle.calls.specs.declared.Name.{Name}
 use Rattle.calls.specs.declared.Name.the-variants.{Found, Nothing}
 use Rattle.calls.specs.Checks.{mostFiles, ofKind, filesOf}
@@ -39,6 +39,11 @@ module _ (a b c d w x y z : ℕ) where
       let r : c ≡ y = cc in
       let s : d ≡ z = cc in
       false≢true (sym h ∙ both (both (both (eq-eqb a w p) (eq-eqb b x q)) (eq-eqb c y r)) (eq-eqb d z s))
+
+pub no-prefix : (a b c d : ℕ) → eqb a 99 && eqb b 110 && eqb c 118 && eqb d 47 ≡ false → eqb a 115 && eqb b 101 && eqb c 113 && eqb d 47 ≡ false
+    → (k : FileKind) → (a ∷ b ∷ c ∷ d ∷ []) ≡ prefixOf k → ⊥
+no-prefix a b c d h g Conventional = four-differ a b c d 99 110 118 47 h
+no-prefix a b c d h g Sequential = four-differ a b c d 115 101 113 47 g
 
 -- a name of four bytes or more is its first four and the rest
 pub split-four : (name : List ℕ) → 4 ≤ length name → name ≡ (getD name 0 0 ∷ getD name 1 0 ∷ getD name 2 0 ∷ getD name 3 0 ∷ []) ++ drop 4 name
@@ -79,3 +84,70 @@ name-number Sequential n i e = decimal-same n i (cc)
 pub name-kind : (n i : ℕ) → nameOf Conventional n ≡ nameOf Sequential i → ⊥
 unfolding nameOf
 name-kind n i e = let z : _≡_ {A = ℕ} 99 115 = cc in omega arith
+
+-- THE SAME BYTES
+
+same-refl : (b : List ℕ) → sameBytes b b ≡ true
+same-refl [] = refl
+same-refl (x ∷ xs) = both (eq-eqb x x refl) (same-refl xs)
+
+same-eq : (b c : List ℕ) → sameBytes b c ≡ true → b ≡ c
+same-eq [] [] h = refl
+same-eq [] (y ∷ ys) h = absurd (false≢true h)
+same-eq (x ∷ xs) [] h = absurd (false≢true h)
+same-eq (x ∷ xs) (y ∷ ys) h =
+    let e : x ≡ y = eqb-true x y (and-left _ (sameBytes xs ys) h) in
+    let f : xs ≡ ys = same-eq xs ys (and-right (eqb x y) _ h) in
+    cc
+
+not-same : (b c : List ℕ) → (b ≡ c → ⊥) → sameBytes b c ≡ false
+not-same b c h = cases (sameBytes b c) (λ e. absurd (h (same-eq b c e))) (λ e. e)
+
+-- A FILE OF A NAME
+
+-- none, where the name is that of none of them
+file-unnamed : (k : FileKind) (files : ℕ) (name : List ℕ) → ((n : ℕ) → n < files → name ≡ nameOf k n → ⊥) → fileNamed k files name ≡ Nothing
+unfolding fileNamed
+file-unnamed k zero name h = refl
+file-unnamed k (suc n) name h =
+    rw (not-same name (nameOf k n) (h n (omega arith))) (file-unnamed k n name (λ i l. h i (omega arith)))
+
+-- and the file whose name it is
+file-named : (k : FileKind) (files n : ℕ) → n < files → fileNamed k files (nameOf k n) ≡ Found k n
+unfolding fileNamed
+file-named k zero n h = absurd (omega arith)
+file-named k (suc i) n h = elim (decLe i n) [
+  | yes p ↦ let e : n ≡ i = omega arith in rw (e, same-refl (nameOf k i))
+  | no p ↦
+    rw (not-same (nameOf k n) (nameOf k i) (λ e. let q : n ≡ i = name-number k n i e in omega arith)) (file-named k i n (lt-of-not-le p))
+]
+
+module _ (v : Volume) (name : List ℕ) where
+  -- a name of no file that any mount has
+  pub unnamed : ((k : FileKind) → filesOf k v ≤ mostFiles) → ((k : FileKind) (n : ℕ) → n < mostFiles → name ≡ nameOf k n → ⊥) → named v name ≡ Nothing
+  unfolding named
+  unnamed m h =
+      rw
+      (file-unnamed Conventional (v .conventional) name (λ n l. h Conventional n (omega (arith, m Conventional))),
+      file-unnamed Sequential (v .sequential) name (λ n l. h Sequential n (omega (arith, m Sequential))))
+
+  -- the name of file n of a kind, where the mount has it, and where it hasn't
+  pub named-file : (k : FileKind) (n : ℕ) → name ≡ nameOf k n → n < filesOf k v → named v name ≡ Found k n
+  unfolding named
+  named-file Conventional n e l = rw (e, file-named Conventional (v .conventional) n l)
+  named-file Sequential n e l =
+      rw
+      (file-unnamed Conventional (v .conventional) name (λ i g q. name-kind i n (sym q ∙ e)),
+      e,
+      file-named Sequential (v .sequential) n l)
+
+  pub named-none : (k : FileKind) (n : ℕ) → name ≡ nameOf k n → filesOf k v ≤ n → named v name ≡ Nothing
+  unfolding named
+  named-none Conventional n e l =
+      rw
+      (file-unnamed Conventional (v .conventional) name (λ i g q. let s : i ≡ n = name-number Conventional i n (sym q ∙ e) in omega arith),
+      file-unnamed Sequential (v .sequential) name (λ i g q. name-kind n i (sym e ∙ q)))
+  named-none Sequential n e l =
+      rw
+      (file-unnamed Conventional (v .conventional) name (λ i g q. name-kind i n (sym q ∙ e)),
+      file-unnamed Sequential (v .sequential) name (λ i g q. let s : i ≡ n = name-number Sequential i n (sym q ∙ e) in omega arith))
