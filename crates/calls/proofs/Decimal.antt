@@ -107,7 +107,7 @@ digits-first (suc (suc f)) n a p =
     digits-by n
     (λ h. rw (digits-one (suc f) n h) (λ q. omega arith))
     (λ h. rw (digits-more (suc f) n h, List·getD-append (digitsOf (suc f) (n / 10)) (digitByte (n % 10) ∷ []) 0 0 (digits-some f (n / 10)))
-      (digits-first (suc f) (n / 10) (omega arith) (omega arith)))
+    (digits-first (suc f) (n / 10) (omega arith) (omega arith)))
 
 decimal-first : (n : ℕ) → 1 < length (decimal n) → getD (decimal n) 0 0 ≡ 48 → ⊥
 decimal-first n l =
@@ -196,11 +196,11 @@ module _ (text : List ℕ) (i value : ℕ) (r : ReadTo text i value) where
         extended = elim (decLe 1 i) [
           | yes h ↦ sym (decimal-more value (getD text i 0 - 48) (positive h) small-digit ∙ rw (byte, r .some h))
           | no h ↦
-            let z : i ≡ 0 = omega arith in
-            let v : value ≡ 0 = r .none z in
-            let d : value * 10 + (getD text i 0 - 48) ≡ getD text i 0 - 48 = omega arith in
-            ap (λ (n : ℕ). take n text ++ getD text i 0 ∷ []) z
-            ∙ sym (ap decimal d ∙ decimal-one (getD text i 0 - 48) small-digit ∙ ap (λ (b : ℕ). b ∷ []) byte)
+              let z : i ≡ 0 = omega arith in
+              let v : value ≡ 0 = r .none z in
+              let d : value * 10 + (getD text i 0 - 48) ≡ getD text i 0 - 48 = omega arith in
+              ap (λ (n : ℕ). take n text ++ getD text i 0 ∷ []) z
+              ∙ sym (ap decimal d ∙ decimal-one (getD text i 0 - 48) small-digit ∙ ap (λ (b : ℕ). b ∷ []) byte)
         ]
 
     -- what is no digit stands in no decimal
@@ -221,7 +221,7 @@ module _ (text : List ℕ) (i value : ℕ) (r : ReadTo text i value) where
     not-large h n s e =
         let v : valueFrom 0 text ≡ n = ap (valueFrom 0) e ∙ decimal-value n in
         let w : valueFrom 0 text ≡ valueFrom (valueFrom 0 (take (i + 1) text)) (drop (i + 1) text) =
-            ap (valueFrom 0) (sym (take-append-drop (i + 1) text)) ∙ value-append 0 (take (i + 1) text) (drop (i + 1) text) in
+        ap (valueFrom 0) (sym (take-append-drop (i + 1) text)) ∙ value-append 0 (take (i + 1) text) (drop (i + 1) text) in
         omega (arith, value-grows (valueFrom 0 (take (i + 1) text)) (drop (i + 1) text), next-value)
 
 pub not-empty : (text : List ℕ) → length text ≡ 0 → (n : ℕ) → text ≡ decimal n → ⊥

@@ -1,23 +1,29 @@
 -- Names: two names of files are the same only of the same file, and a mount's file is found by its name and by no other.
 -- Assumes nothing.
-use Prim.Native.Nat.{ℕ, zero, suc, _+_, _≤_, _<_}
+use Prim.Native.Nat.{ℕ, zero, suc, _+_, _-_, _≤_, _<_}
 use native.Mathlib.Omega.{arith}
 use native.Mathlib.Decide.{decLe}
 use native.Mathlib.Nat.{lt-of-not-le}
 use mathlib.Core.Path.{_≡_, refl, sym, _∙_, ap}
 use mathlib.Core.Bool.{Bool, true, false, cond, _&&_, false≢true}
 use mathlib.Core.List.{List, [], _∷_, _++_}
-use lib.ListN.{length, getD, drop}
+use lib.ListN.{length, getD, take, drop, length-drop}
+use lib.Seq.{take-all}
 use lib.Dec.{eqb, ltb}
 use borrow.Author.Tests.{eqb-true, eq-eqb, lt-ltb, le-ltb}
 use Rattle.types.specs.declared.Volume.{Volume}
 use Rattle.types.specs.declared.FileKind.{FileKind}
 use Rattle.types.specs.declared.FileKind.the-variants.{Conventional, Sequential}
+use Rattle.types.specs.declared.Refusal.the-variants as refusal
+use Rattle.types.specs.declared.FindAnswer.the-variants as find
+use Rattle.table.specs.declared.Slot.{Slot}
 use Rattle.types.proofs.Tests.{both, and-left, and-right, cases}
 use Rattle.calls.specs.declared.Name.{Name}
 use Rattle.calls.specs.declared.Name.the-variants.{Found, Nothing}
-use Rattle.calls.specs.Checks.{mostFiles, ofKind, filesOf}
-use Rattle.calls.specs.Names.{prefixOf, decimal, nameOf, sameBytes, fileNamed, orElse, named, NameTells}
+use Rattle.calls.specs.declared.Lookup.the-variants as lookup
+use Rattle.calls.specs.Checks.{mostFiles, filesOf, countsFit, lookupOf, soundSlot}
+use Rattle.calls.specs.Names.{prefixOf, decimal, nameOf, sameBytes, fileNamed, named, foundFile, foundName, findOf, NameTells}
+use Rattle.calls.proofs.Laws.{counts-most, lookup-some, lookup-none, file-found}
 use Rattle.calls.proofs.Decimal.{decimal-same}
 
 -- THE FIRST FOUR BYTES
@@ -45,24 +51,36 @@ pub no-prefix : (a b c d : ℕ) → eqb a 99 && eqb b 110 && eqb c 118 && eqb d 
 no-prefix a b c d h g Conventional = four-differ a b c d 99 110 118 47 h
 no-prefix a b c d h g Sequential = four-differ a b c d 115 101 113 47 g
 
--- a name of four bytes or more is its first four and the rest
-pub split-four : (name : List ℕ) → 4 ≤ length name → name ≡ (getD name 0 0 ∷ getD name 1 0 ∷ getD name 2 0 ∷ getD name 3 0 ∷ []) ++ drop 4 name
-split-four [] h = absurd (omega arith)
-split-four (a ∷ []) h = absurd (omega arith)
-split-four (a ∷ b ∷ []) h = absurd (omega arith)
-split-four (a ∷ b ∷ c ∷ []) h = absurd (omega arith)
-split-four (a ∷ b ∷ c ∷ d ∷ rest) h = refl
+-- a text of four bytes or more is its first four and the rest
+abbrev fourOf : List ℕ → List ℕ
+fourOf name = getD name 0 0 ∷ getD name 1 0 ∷ getD name 2 0 ∷ getD name 3 0 ∷ []
+
+abbrev restOf : List ℕ → List ℕ
+restOf name = take (length name - 4) (drop 4 name)
+
+rest-all : (name : List ℕ) → restOf name ≡ drop 4 name
+rest-all name = take-all (length name - 4) (drop 4 name) (omega (arith, length-drop 4 name))
+
+at-four : (name : List ℕ) → 4 ≤ length name → name ≡ fourOf name ++ drop 4 name
+at-four [] h = absurd (omega arith)
+at-four (a ∷ []) h = absurd (omega arith)
+at-four (a ∷ b ∷ []) h = absurd (omega arith)
+at-four (a ∷ b ∷ c ∷ []) h = absurd (omega arith)
+at-four (a ∷ b ∷ c ∷ d ∷ rest) h = refl
+
+split-four : (name : List ℕ) → 4 ≤ length name → name ≡ fourOf name ++ restOf name
+split-four name h = at-four name h ∙ ap (λ (l : List ℕ). fourOf name ++ l) (sym (rest-all name))
 
 -- NAMES
 
 -- a name's parts
-pub name-parts : (a b c d : ℕ) (rest : List ℕ) (k : FileKind) (n : ℕ) → (a ∷ b ∷ c ∷ d ∷ []) ++ rest ≡ nameOf k n
+name-parts : (a b c d : ℕ) (rest : List ℕ) (k : FileKind) (n : ℕ) → (a ∷ b ∷ c ∷ d ∷ []) ++ rest ≡ nameOf k n
     → ((a ∷ b ∷ c ∷ d ∷ []) ≡ prefixOf k) × (rest ≡ decimal n)
 unfolding nameOf
 name-parts a b c d rest Conventional n e = (cc, cc)
 name-parts a b c d rest Sequential n e = (cc, cc)
 
-pub name-whole : (a b c d : ℕ) (rest : List ℕ) (k : FileKind) (n : ℕ) → (a ∷ b ∷ c ∷ d ∷ []) ≡ prefixOf k → rest ≡ decimal n
+name-whole : (a b c d : ℕ) (rest : List ℕ) (k : FileKind) (n : ℕ) → (a ∷ b ∷ c ∷ d ∷ []) ≡ prefixOf k → rest ≡ decimal n
     → (a ∷ b ∷ c ∷ d ∷ []) ++ rest ≡ nameOf k n
 unfolding nameOf
 name-whole a b c d rest k n e f = cc
@@ -84,6 +102,17 @@ name-number Sequential n i e = decimal-same n i (cc)
 pub name-kind : (n i : ℕ) → nameOf Conventional n ≡ nameOf Sequential i → ⊥
 unfolding nameOf
 name-kind n i e = let z : _≡_ {A = ℕ} 99 115 = cc in omega arith
+
+-- a name read by its parts
+module _ (name : List ℕ) (l : 4 ≤ length name) where
+  pub name-is : (k : FileKind) (n : ℕ) → fourOf name ≡ prefixOf k → restOf name ≡ decimal n → name ≡ nameOf k n
+  name-is k n e f = split-four name l ∙ name-whole _ _ _ _ (restOf name) k n e f
+
+  pub name-not-kind : ((k : FileKind) → fourOf name ≡ prefixOf k → ⊥) → (k : FileKind) (n : ℕ) → name ≡ nameOf k n → ⊥
+  name-not-kind h k n e = h k (name-parts _ _ _ _ (restOf name) k n (sym (split-four name l) ∙ e) .0)
+
+  pub name-not-number : ((n : ℕ) → n < mostFiles → restOf name ≡ decimal n → ⊥) → (k : FileKind) (n : ℕ) → n < mostFiles → name ≡ nameOf k n → ⊥
+  name-not-number h k n s e = h n s (name-parts _ _ _ _ (restOf name) k n (sym (split-four name l) ∙ e) .1)
 
 -- THE SAME BYTES
 
@@ -119,7 +148,7 @@ file-named k zero n h = absurd (omega arith)
 file-named k (suc i) n h = elim (decLe i n) [
   | yes p ↦ let e : n ≡ i = omega arith in rw (e, same-refl (nameOf k i))
   | no p ↦
-    rw (not-same (nameOf k n) (nameOf k i) (λ e. let q : n ≡ i = name-number k n i e in omega arith)) (file-named k i n (lt-of-not-le p))
+      rw (not-same (nameOf k n) (nameOf k i) (λ e. let q : n ≡ i = name-number k n i e in omega arith)) (file-named k i n (lt-of-not-le p))
 ]
 
 module _ (v : Volume) (name : List ℕ) where
@@ -127,27 +156,52 @@ module _ (v : Volume) (name : List ℕ) where
   pub unnamed : ((k : FileKind) → filesOf k v ≤ mostFiles) → ((k : FileKind) (n : ℕ) → n < mostFiles → name ≡ nameOf k n → ⊥) → named v name ≡ Nothing
   unfolding named
   unnamed m h =
-      rw
-      (file-unnamed Conventional (v .conventional) name (λ n l. h Conventional n (omega (arith, m Conventional))),
-      file-unnamed Sequential (v .sequential) name (λ n l. h Sequential n (omega (arith, m Sequential))))
+      rw (
+        file-unnamed Conventional (v .conventional) name (λ n l. h Conventional n (omega (arith, m Conventional))),
+        file-unnamed Sequential (v .sequential) name (λ n l. h Sequential n (omega (arith, m Sequential))),
+      )
 
   -- the name of file n of a kind, where the mount has it, and where it hasn't
   pub named-file : (k : FileKind) (n : ℕ) → name ≡ nameOf k n → n < filesOf k v → named v name ≡ Found k n
   unfolding named
   named-file Conventional n e l = rw (e, file-named Conventional (v .conventional) n l)
   named-file Sequential n e l =
-      rw
-      (file-unnamed Conventional (v .conventional) name (λ i g q. name-kind i n (sym q ∙ e)),
-      e,
-      file-named Sequential (v .sequential) n l)
+      rw (
+        file-unnamed Conventional (v .conventional) name (λ i g q. name-kind i n (sym q ∙ e)),
+        e,
+        file-named Sequential (v .sequential) n l,
+      )
 
   pub named-none : (k : FileKind) (n : ℕ) → name ≡ nameOf k n → filesOf k v ≤ n → named v name ≡ Nothing
   unfolding named
   named-none Conventional n e l =
-      rw
-      (file-unnamed Conventional (v .conventional) name (λ i g q. let s : i ≡ n = name-number Conventional i n (sym q ∙ e) in omega arith),
-      file-unnamed Sequential (v .sequential) name (λ i g q. name-kind n i (sym e ∙ q)))
+      rw (
+        file-unnamed Conventional (v .conventional) name (λ i g q. let s : i ≡ n = name-number Conventional i n (sym q ∙ e) in omega arith),
+        file-unnamed Sequential (v .sequential) name (λ i g q. name-kind n i (sym e ∙ q)),
+      )
   named-none Sequential n e l =
-      rw
-      (file-unnamed Conventional (v .conventional) name (λ i g q. name-kind i n (sym q ∙ e)),
-      file-unnamed Sequential (v .sequential) name (λ i g q. let s : i ≡ n = name-number Sequential i n (sym q ∙ e) in omega arith))
+      rw (
+        file-unnamed Conventional (v .conventional) name (λ i g q. name-kind i n (sym q ∙ e)),
+        file-unnamed Sequential (v .sequential) name (λ i g q. let s : i ≡ n = name-number Sequential i n (sym q ∙ e) in omega arith),
+      )
+
+-- FINDING
+
+module _ (v : Volume) (cnv seq name : List ℕ) (h : countsFit v (length cnv) (length seq) ≡ true) where
+  -- past the counts
+  find-counted : (x : Name) → named v name ≡ x → findOf v cnv seq name ≡ foundName v cnv seq x
+  find-counted x e = rw (h, e)
+
+  -- a text that is the name of no file
+  pub find-unnamed : NameTells name Nothing → findOf v cnv seq name ≡ find.Refused refusal.NoFile
+  find-unnamed t = find-counted Nothing (unnamed v name (counts-most v (length cnv) (length seq) h) t)
+
+  -- the name of a file that the mount doesn't have
+  pub find-none : (k : FileKind) (n : ℕ) → name ≡ nameOf k n → lookupOf v cnv seq k n ≡ lookup.Nothing → findOf v cnv seq name ≡ find.Refused refusal.NoFile
+  find-none k n t e = find-counted Nothing (named-none v name k n t (lookup-none v cnv seq k n e))
+
+  -- and of one that it has
+  pub find-file : (k : FileKind) (n : ℕ) (x : Slot) → name ≡ nameOf k n → lookupOf v cnv seq k n ≡ lookup.Found x
+      → findOf v cnv seq name ≡ foundFile k n (soundSlot (v .block) k x)
+  find-file k n x t e =
+      find-counted (Found k n) (named-file v name k n t (lookup-some v cnv seq k n x e)) ∙ ap (foundFile k n) (file-found v cnv seq k n h e)

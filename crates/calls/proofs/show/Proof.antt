@@ -1,48 +1,37 @@
+use mathlib.Core.Path.{_∙_, sym}
+use borrow.Author.Tests.{not-true, not-false}
+use Rattle.calls.proofs.Laws.{file-counts, file-none, file-found}
 use borrow.Author.Needs.{needs}
 use Rattle.calls.proofs.show.Statement.{statement}
 use Rattle.calls.proofs.show.Tie as tie
-use Rattle.calls.proofs.show.Reads as reads
-use Rattle.calls.proofs.show.Lts as lts
-use Rattle.calls.proofs.checks.counts_fit.Reads as counts-fit-reads
-use Rattle.calls.proofs.checks.lookup.Reads as lookup-reads
-use Rattle.calls.proofs.checks.sound_slot.Reads as sound-slot-reads
-use Rattle.calls.proofs.show_file.Reads as show-file-reads
 
--- src/lib.rt:102:9
 counts-fit-requires : tie.Need-counts-fit-requires
 counts-fit-requires c κs = search needs
 
--- src/lib.rt:103:9
 returns : tie.Need-returns
-returns c = ?
+returns c = let a = c .before .before .before .before .before .args in
+    simp (file-counts _ (a .cnv .now) (a .seq .now) (a .kind) (a .number) (sym (c .before .counts-fit .ensures .0) ∙ not-true _ (c .if1 .taken)))
 
--- src/lib.rt:105:31
 lookup-requires : tie.Need-lookup-requires
-lookup-requires c κs = ?
+lookup-requires c κs = sym (c .before .counts-fit .ensures .0) ∙ not-false _ (c .if1 .left)
 
--- src/lib.rt:105:23
 enum-known-slot : tie.Need-enum-known-slot
 enum-known-slot c = search needs
 
--- src/lib.rt:106:36
 enum-told : tie.Need-enum-told
 enum-told c = search needs
 
--- src/lib.rt:106:9
 returns-2 : tie.Need-returns-2
-returns-2 c = ?
+returns-2 c = simp (file-none _ _ _ _ _ (sym (c .before .before .before .before .counts-fit .ensures .0) ∙ not-false _ (c .before .before .before .if1 .left)) (sym (c .before .before .lookup .ensures) ∙ c .enum-told .given .1))
 
--- src/lib.rt:108:18
 sound-slot-requires : tie.Need-sound-slot-requires
-sound-slot-requires c κs = ?
+sound-slot-requires c κs = c .before .before .before .before .before .counts-fit .ensures .1 (not-false _ (c .before .before .before .before .if1 .left))
 
--- src/lib.rt:108:5
 show-file-requires : tie.Need-show-file-requires
 show-file-requires c κs = search needs
 
--- src/lib.rt:98:1
 returns-3 : tie.Need-returns-3
-returns-3 c = ?
+returns-3 c = simp (file-found _ _ _ _ _ (sym (c .before .before .before .before .before .before .before .counts-fit .ensures .0) ∙ not-false _ (c .before .before .before .before .before .before .if1 .left)) (sym (c .before .before .before .before .before .lookup .ensures) ∙ c .before .before .before .slot .given .1), c .show-file .ensures, c .before .sound-slot .ensures .0)
 
 pub show-spec : {M : Type 1} → statement M
 show-spec =

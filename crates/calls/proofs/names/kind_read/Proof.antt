@@ -3,18 +3,13 @@ use Rattle.types.specs.declared.FileKind.the-variants.{Conventional, Sequential
 use Rattle.calls.proofs.Naming.{four-same, four-differ, no-prefix}
 use Rattle.calls.proofs.names.kind_read.Statement.{statement}
 use Rattle.calls.proofs.names.kind_read.Tie as tie
-use Rattle.calls.proofs.names.kind_read.Reads as reads
-use Rattle.calls.proofs.names.kind_read.Lts as lts
 
--- src/names.rt:19:1
 returns : tie.Need-returns
 returns c = let a = c .before .args in four-same (a .a) (a .b) (a .c) (a .d) 99 110 118 47 (c .if1 .taken)
 
--- src/names.rt:19:1
 returns-2 : tie.Need-returns-2
 returns-2 c = let a = c .before .before .args in four-same (a .a) (a .b) (a .c) (a .d) 115 101 113 47 (c .if2 .taken)
 
--- src/names.rt:19:1
 returns-3 : tie.Need-returns-3
 returns-3 c = let a = c .before .before .args in no-prefix (a .a) (a .b) (a .c) (a .d) (c .before .if1 .left) (c .if2 .left)
 
