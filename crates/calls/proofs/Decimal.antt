@@ -99,6 +99,9 @@ digits-are (suc f) n =
     (λ h. rw (digits-one f n h) (a-digit n h))
     (λ h. rw (digits-more f n h) (all-append (digitsOf f (n / 10)) (digitByte (n % 10) ∷ []) (digits-are f (n / 10)) (a-digit (n % 10) (omega arith))))
 
+pub decimal-digit : (n i : ℕ) → i < length (decimal n) → IsDigit (getD (decimal n) i 0)
+decimal-digit n i l = all-at (decimal n) i (digits-are (suc n) n) l
+
 -- the first of two or more is not 0
 digits-first : (f n : ℕ) → n < f → 0 < n → getD (digitsOf f n) 0 0 ≡ 48 → ⊥
 digits-first zero n a p = absurd (omega arith)
@@ -109,7 +112,7 @@ digits-first (suc (suc f)) n a p =
     (λ h. rw (digits-more (suc f) n h, List·getD-append (digitsOf (suc f) (n / 10)) (digitByte (n % 10) ∷ []) 0 0 (digits-some f (n / 10)))
     (digits-first (suc f) (n / 10) (omega arith) (omega arith)))
 
-decimal-first : (n : ℕ) → 1 < length (decimal n) → getD (decimal n) 0 0 ≡ 48 → ⊥
+pub decimal-first : (n : ℕ) → 1 < length (decimal n) → getD (decimal n) 0 0 ≡ 48 → ⊥
 decimal-first n l =
     digits-by n
     (λ h. absurd (let e : 1 < 1 = rw (digits-one n n h) at l in omega arith))
@@ -205,7 +208,7 @@ module _ (text : List ℕ) (i value : ℕ) (r : ReadTo text i value) where
 
     -- what is no digit stands in no decimal
     pub not-digit : (IsDigit (getD text i 0) → ⊥) → (n : ℕ) → text ≡ decimal n → ⊥
-    not-digit odd n e = odd (rw e (all-at (decimal n) i (digits-are (suc n) n) (rw e at l)))
+    not-digit odd n e = odd (rw e (decimal-digit n i (rw e at l)))
 
     -- 0 leads no longer decimal
     pub not-leading : ltb 0 i && eqb value 0 ≡ true → (n : ℕ) → text ≡ decimal n → ⊥

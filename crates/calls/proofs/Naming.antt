@@ -4,7 +4,7 @@ use Prim.Native.Nat.{ℕ, zero, suc, _+_, _-_, _≤_, _<_}
 use native.Mathlib.Omega.{arith}
 use native.Mathlib.Decide.{decLe}
 use native.Mathlib.Nat.{lt-of-not-le}
-use mathlib.Core.Path.{_≡_, refl, sym, _∙_, ap}
+use mathlib.Core.Path.{_≡_, refl, sym, _∙_, ap, subst}
 use mathlib.Core.Bool.{Bool, true, false, cond, _&&_, false≢true}
 use mathlib.Core.List.{List, [], _∷_, _++_}
 use lib.ListN.{length, getD, take, drop, length-drop}
@@ -22,7 +22,7 @@ use Rattle.calls.specs.declared.Name.{Name}
 use Rattle.calls.specs.declared.Name.the-variants.{Found, Nothing}
 use Rattle.calls.specs.declared.Lookup.the-variants as lookup
 use Rattle.calls.specs.Checks.{mostFiles, filesOf, countsFit, lookupOf, soundSlot}
-use Rattle.calls.specs.Names.{prefixOf, decimal, nameOf, sameBytes, fileNamed, named, foundFile, foundName, findOf, NameTells}
+use Rattle.calls.specs.Names.{prefixOf, decimal, nameOf, sameBytes, fileNamed, orElse, named, foundFile, foundName, findOf, NameTells}
 use Rattle.calls.proofs.Laws.{counts-most, lookup-some, lookup-none, file-found}
 use Rattle.calls.proofs.Decimal.{decimal-same}
 
@@ -74,7 +74,7 @@ split-four name h = at-four name h ∙ ap (λ (l : List ℕ). fourOf name ++ l) 
 -- NAMES
 
 -- a name's parts
-name-parts : (a b c d : ℕ) (rest : List ℕ) (k : FileKind) (n : ℕ) → (a ∷ b ∷ c ∷ d ∷ []) ++ rest ≡ nameOf k n
+pub name-parts : (a b c d : ℕ) (rest : List ℕ) (k : FileKind) (n : ℕ) → (a ∷ b ∷ c ∷ d ∷ []) ++ rest ≡ nameOf k n
     → ((a ∷ b ∷ c ∷ d ∷ []) ≡ prefixOf k) × (rest ≡ decimal n)
 unfolding nameOf
 name-parts a b c d rest Conventional n e = (cc, cc)
@@ -151,15 +151,24 @@ file-named k (suc i) n h = elim (decLe i n) [
       rw (not-same (nameOf k n) (nameOf k i) (λ e. let q : n ≡ i = name-number k n i e in omega arith)) (file-named k i n (lt-of-not-le p))
 ]
 
+-- what is found has the name, and is one of them
+file-has : (k : FileKind) (files : ℕ) (name : List ℕ) (j : FileKind) (n : ℕ) → fileNamed k files name ≡ Found j n
+    → (k ≡ j) × ((name ≡ nameOf k n) × (n < files))
+unfolding fileNamed
+file-has k zero name j n e = absurd (let z : _≡_ {A = ℕ} 0 1 = cc in omega arith)
+file-has k (suc i) name j n e =
+    cases (sameBytes name (nameOf k i))
+    (λ s.
+    let q : Found k i ≡ Found j n = rw s at e in
+    let r : i ≡ n = cc in
+    (cc, rw (← r) (same-eq name (nameOf k i) s, omega arith)))
+    (λ s. let (p, (q, l)) = file-has k i name j n (rw s at e) in (p, (q, omega arith)))
+
 module _ (v : Volume) (name : List ℕ) where
-  -- a name of no file that any mount has
-  pub unnamed : ((k : FileKind) → filesOf k v ≤ mostFiles) → ((k : FileKind) (n : ℕ) → n < mostFiles → name ≡ nameOf k n → ⊥) → named v name ≡ Nothing
+  -- a text that is the name of none of the mount's files
+  pub unnamed : ((k : FileKind) (n : ℕ) → n < filesOf k v → name ≡ nameOf k n → ⊥) → named v name ≡ Nothing
   unfolding named
-  unnamed m h =
-      rw (
-        file-unnamed Conventional (v .conventional) name (λ n l. h Conventional n (omega (arith, m Conventional))),
-        file-unnamed Sequential (v .sequential) name (λ n l. h Sequential n (omega (arith, m Sequential))),
-      )
+  unnamed h = rw (file-unnamed Conventional (v .conventional) name (h Conventional), file-unnamed Sequential (v .sequential) name (h Sequential))
 
   -- the name of file n of a kind, where the mount has it, and where it hasn't
   pub named-file : (k : FileKind) (n : ℕ) → name ≡ nameOf k n → n < filesOf k v → named v name ≡ Found k n
@@ -173,17 +182,28 @@ module _ (v : Volume) (name : List ℕ) where
       )
 
   pub named-none : (k : FileKind) (n : ℕ) → name ≡ nameOf k n → filesOf k v ≤ n → named v name ≡ Nothing
+  named-none k n e l = unnamed (λ j i g q. other k j i g (sym e ∙ q) l)
+    where
+      other : (k j : FileKind) (i : ℕ) → i < filesOf j v → nameOf k n ≡ nameOf j i → filesOf k v ≤ n → ⊥
+      other Conventional Conventional i g q l = let s : n ≡ i = name-number Conventional n i q in omega arith
+      other Conventional Sequential i g q l = name-kind n i q
+      other Sequential Conventional i g q l = name-kind i n (sym q)
+      other Sequential Sequential i g q l = let s : n ≡ i = name-number Sequential n i q in omega arith
+
+  -- and the other way round: what is found by a name has it, and is a file of the mount
+  pub named-has : (k : FileKind) (n : ℕ) → named v name ≡ Found k n → (name ≡ nameOf k n) × (n < filesOf k v)
   unfolding named
-  named-none Conventional n e l =
-      rw (
-        file-unnamed Conventional (v .conventional) name (λ i g q. let s : i ≡ n = name-number Conventional i n (sym q ∙ e) in omega arith),
-        file-unnamed Sequential (v .sequential) name (λ i g q. name-kind n i (sym e ∙ q)),
-      )
-  named-none Sequential n e l =
-      rw (
-        file-unnamed Conventional (v .conventional) name (λ i g q. name-kind i n (sym q ∙ e)),
-        file-unnamed Sequential (v .sequential) name (λ i g q. let s : i ≡ n = name-number Sequential i n (sym q ∙ e) in omega arith),
-      )
+  named-has k n e = first (fileNamed Conventional (v .conventional) name) refl e
+    where
+      of-kind : (j : FileKind) → fileNamed j (filesOf j v) name ≡ Found k n → (name ≡ nameOf k n) × (n < filesOf k v)
+      of-kind j q =
+          let (same, has) = file-has j (filesOf j v) name k n q in
+          subst (λ (j : FileKind). (name ≡ nameOf j n) × (n < filesOf j v)) same has
+
+      first : (x : Name) → fileNamed Conventional (v .conventional) name ≡ x → orElse x (fileNamed Sequential (v .sequential) name) ≡ Found k n
+          → (name ≡ nameOf k n) × (n < filesOf k v)
+      first (Found j i) f q = of-kind Conventional (f ∙ q)
+      first Nothing f q = of-kind Sequential q
 
 -- FINDING
 
@@ -194,7 +214,7 @@ module _ (v : Volume) (cnv seq name : List ℕ) (h : countsFit v (length cnv) (l
 
   -- a text that is the name of no file
   pub find-unnamed : NameTells name Nothing → findOf v cnv seq name ≡ find.Refused refusal.NoFile
-  find-unnamed t = find-counted Nothing (unnamed v name (counts-most v (length cnv) (length seq) h) t)
+  find-unnamed t = find-counted Nothing (unnamed v name (λ k n l. t k n (omega (arith, counts-most v (length cnv) (length seq) h k))))
 
   -- the name of a file that the mount doesn't have
   pub find-none : (k : FileKind) (n : ℕ) → name ≡ nameOf k n → lookupOf v cnv seq k n ≡ lookup.Nothing → findOf v cnv seq name ≡ find.Refused refusal.NoFile
