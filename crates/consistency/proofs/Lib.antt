@@ -1,0 +1,11 @@
+pub mod Whole
+pub mod Sound
+pub mod Borrowed
+pub mod Keeps
+pub mod Promised
+pub mod Frame
+pub mod Bridge
+pub mod Files
+pub mod Fits
+pub mod Digests
+pub mod Steps
