@@ -9,3 +9,7 @@ pub mod Files
 pub mod Fits
 pub mod Digests
 pub mod Steps
+pub mod Mounts
+pub mod Start
+pub mod Fresh
+pub mod Demand

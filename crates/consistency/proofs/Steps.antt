@@ -174,7 +174,7 @@ module _ {v : Volume} {ks : List FileKind} {w : World} (r : Right v ks w) (k : F
   abbrev done : Performed
   done = performAt w place c o
 
-  abbrev new : Row
+  abbrev pub new : Row
   new = digestedRow k (done .succeeded) (w .mount .volume .policy) c (reported (done .zone)) row
 
   hold : Holding (w .mount) (w .cnv) (w .seq) (holdOf k n c)

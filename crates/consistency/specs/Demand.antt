@@ -8,8 +8,6 @@ use Rattle.types.specs.declared.Row.{Row}
 use Rattle.types.specs.declared.Held.{Held}
 use Rattle.types.specs.declared.Outstanding.the-variants.{Idle, Busy}
 use Rattle.types.specs.declared.ErrorPolicy.{ErrorPolicy}
-use Rattle.types.specs.declared.Answer.{Answer}
-use Rattle.types.specs.declared.Command.{Command}
 use Rattle.types.specs.Numbers.{mountNumber, answerNumber}
 use Rattle.table.specs.declared.Slot.the-variants.{Good}
 use Rattle.table.specs.Rows.{rowAt}
@@ -35,10 +33,6 @@ pub record Start (block : ℕ) (superblock options report cnv seq : List ℕ) (d
   pub answer : mountNumber (mountOutcome block superblock options report cnv seq .answer) ≡ 0
   pub shows : Shows report disk
 
--- the world after a list of events
-abbrev pub after : ℕ → List ℕ → List ℕ → List ℕ → List ℕ → List ℕ → List DiskZone → List Event → World
-after block superblock options report cnv seq disk events = run (mounted (mountOutcome block superblock options report cnv seq) disk) events
-
 -- "Fresh mount: the same arguments with other tables as long, and a report that shows each zone's pointer and condition now."
 pub record Consistent (block : ℕ) (superblock options report cnv seq : List ℕ) (w : World) : Type 0 where
   pub answer : mountNumber (mountOutcome block superblock options report cnv seq .answer) ≡ 0
@@ -46,7 +40,13 @@ pub record Consistent (block : ℕ) (superblock options report cnv seq : List �
   pub rows : (n : ℕ) → n < w .mount .volume .sequential → storyOf w n .quiet ≡ true
       → Compares (policyOf (optionsOf options)) (storyOf w n) (zoneOf w n) (mountOutcome block superblock options report cnv seq .seq) (w .seq) n
 
--- "demand 3 is a single claim about the whole list"
+module _ (block : ℕ) (superblock options report cnv seq : List ℕ) (disk : List DiskZone) (events : List Event) where
+  -- the world after a list of events
+  abbrev pub after : World
+  after = run (mounted (mountOutcome block superblock options report cnv seq) disk) events
+
+-- DEMAND 3: "a single claim about the whole list". With nothing outstanding, every fresh mount is answered 0, and every quiet seq file's
+-- row compares with its row there as promised.
 unfoldable pub Demand3 : Type 0
 Demand3 =
     (block : ℕ) (superblock options report cnv seq : List ℕ) (disk : List DiskZone) → Start block superblock options report cnv seq disk
@@ -54,3 +54,22 @@ Demand3 =
     → (report′ cnv′ seq′ : List ℕ) → Shows report′ (after block superblock options report cnv seq disk events .disk)
     → length cnv′ ≡ length cnv → length seq′ ≡ length seq
     → Consistent block superblock options report′ cnv′ seq′ (after block superblock options report cnv seq disk events)
+
+-- Beside it: there always is a report, of bytes, that shows the disk as it is.
+pub record Reports (disk : List DiskZone) : Type 0 where
+  pub report : List ℕ
+  pub bytes : (i : ℕ) → getD report i 0 < 256
+  pub shows : Shows report disk
+
+unfoldable pub CanReport : Type 0
+CanReport =
+    (block : ℕ) (superblock options report cnv seq : List ℕ) (disk : List DiskZone) → Start block superblock options report cnv seq disk
+    → (events : List Event) → Reports (after block superblock options report cnv seq disk events .disk)
+
+-- And the completion of an outstanding command, whatever the disk does with it, is answered 0 or 7, never 8, 9 or 10.
+unfoldable pub AlwaysDigested : Type 0
+AlwaysDigested =
+    (block : ℕ) (superblock options report cnv seq : List ℕ) (disk : List DiskZone) → Start block superblock options report cnv seq disk
+    → (events : List Event) (h : Held) → let w = after block superblock options report cnv seq disk events in w .mount .outstanding ≡ Busy h
+    → (o : Choice) → let done = performAt w (zoneHolding (w .disk) (h .command .address)) (h .command) o in
+    answerNumber (digestOf (w .mount) (w .cnv) (w .seq) (truthful done) .outcome .answer) ≡ cond (done .succeeded) 0 7

@@ -1,0 +1,184 @@
+-- Demand 3 holds; and no truthful completion is answered 8, 9 or 10.
+-- Assumes nothing.
+use mathlib.Core.Bool.{Bool, true, false, cond}
+use mathlib.Core.List.{List, map}
+use mathlib.Core.Path.{_≡_, refl, sym, ap, _∙_, subst}
+use Prim.Native.Nat.{ℕ, _+_, _*_, _/_, _≤_, _<_}
+use native.Mathlib.Omega.{arith}
+use lib.ListN.{length, getD, drop}
+use Rattle.types.specs.declared.Row.{Row}
+use Rattle.types.specs.declared.Held.{Held}
+use Rattle.types.specs.declared.Volume.{Volume}
+use Rattle.types.specs.declared.Mount.{Mount}
+use Rattle.types.specs.declared.Command.{Command}
+use Rattle.types.specs.declared.FileKind.{FileKind}
+use Rattle.types.specs.declared.FileKind.the-variants.{Conventional, Sequential}
+use Rattle.types.specs.declared.ErrorPolicy.{ErrorPolicy}
+use Rattle.types.specs.declared.Outstanding.the-variants.{Idle, Busy}
+use Rattle.types.specs.declared.MountAnswer.{MountAnswer}
+use Rattle.types.specs.declared.MountAnswer.the-variants.{Mounted}
+use Rattle.types.specs.Numbers.{mountNumber, answerNumber}
+use Rattle.types.specs.Blocks.{blockSectors}
+use Rattle.types.proofs.Blocks.{IsBlock, is-block}
+use Rattle.table.specs.declared.Slot.the-variants.{Good}
+use Rattle.table.specs.Rows.{rowsLent, rowAt}
+use Rattle.superblock.specs.SuperBlock.{superRead}
+use Rattle.options.specs.Options.{optionsOf}
+use Rattle.zones.specs.Report.{zonesOf, goodRun}
+use Rattle.mount.specs.Files.{cnvRows, seqRows}
+use Rattle.mount.specs.Fill.{fill}
+use Rattle.mount.specs.Mount.{Mounting, fileZones, policyOf, aggregated, mountOf, tableAfter, mountAnswer, mountOutcome}
+use Rattle.completion.specs.Completions.{digestOf}
+use Rattle.consistency.specs.Disk.{DiskZone, Choice}
+use Rattle.consistency.specs.Story.{Story, atMount}
+use Rattle.consistency.specs.Shows.{Shows, ShowsZones}
+use Rattle.consistency.specs.World.{World, Event, run, mounted, zoneOf, storyOf, zoneHolding, performAt, truthful}
+use Rattle.consistency.specs.Claim.{AsPromised}
+use Rattle.consistency.specs.Demand.{Compares, Start, after, Consistent, Demand3, AlwaysDigested}
+use Rattle.consistency.proofs.Promised.{shownRow, promised}
+use Rattle.consistency.proofs.Bridge.{noRow, Listed, fill-listed}
+use Rattle.consistency.proofs.Files.{kinds}
+use Rattle.consistency.proofs.Digests.{holdOf}
+use Rattle.consistency.proofs.Steps.{Right, right-run, new, seq-digested, cnv-digested, replied}
+use Rattle.consistency.proofs.Mounts.{Mounts, mounts, mount-answered, report-runs, report-good}
+use Rattle.consistency.proofs.Start.{files-start, covers-start, covers-nth}
+use Rattle.consistency.proofs.Fresh.{run-good, seq-count, shown, cnv-count}
+
+module _ (block : ℕ) (superblock options report cnv seq : List ℕ) where
+  abbrev cnvs : List Row
+  cnvs = cnvRows (aggregated superblock) (fileZones report)
+
+  abbrev seqs : List Row
+  seqs = seqRows (fileZones report)
+
+  -- what a mount answered 0 leaves
+  abbrev mounting : Mounting
+  mounting = record {
+    answer = Mounted (length cnvs) (length seqs);
+    mount = mountOf (Mounted (length cnvs) (length seqs)) block (superRead superblock .fields) (policyOf (optionsOf options));
+    cnv = fill cnv cnvs;
+    seq = fill seq seqs;
+  }
+
+  mount-gives : Mounts block superblock options report cnv seq → mountOutcome block superblock options report cnv seq ≡ mounting
+  unfolding mountOutcome tableAfter
+  mount-gives m = rw (mount-answered block superblock options report cnv seq m) refl
+
+  answers : mountNumber (mountOutcome block superblock options report cnv seq .answer) ≡ 0 → Mounts block superblock options report cnv seq
+  unfolding mountOutcome
+  answers e = mounts block superblock options report cnv seq e
+
+  -- the world that it leaves
+  right-mounted : Mounts block superblock options report cnv seq → (disk : List DiskZone) → ShowsZones (zonesOf report) disk → Right (mounting .mount .volume) (kinds disk) (mounted mounting disk)
+  unfolding mounted mountOf fileZones
+  right-mounted m disk ws =
+      let b = is-block block (m .blocked) in
+      let runs = report-runs (blockSectors block) report (m .reported) in
+      record {
+        same = refl;
+        block = b;
+        zones = refl;
+        rows = seqs;
+        listed = fill-listed seq seqs;
+        files = files-start b (policyOf (optionsOf options)) ws runs;
+        plain = cnvs;
+        plainly = fill-listed cnv cnvs;
+        covers = λ n h. covers-nth (covers-start b (aggregated superblock) ws runs) n h;
+        held = tt;
+      }
+
+  pub right-after : (disk : List DiskZone) → Start block superblock options report cnv seq disk → (events : List Event) → Right (mounting .mount .volume) (kinds disk) (after block superblock options report cnv seq disk events)
+  right-after disk s events =
+      let m = answers (s .answer) in
+      rw (mount-gives m) (right-run (right-mounted m disk (s .shows .zones)) events)
+
+module _ (block : ℕ) (superblock options report cnv seq : List ℕ) (disk : List DiskZone) (start : Start block superblock options report cnv seq disk) (events : List Event) where
+  abbrev w : World
+  w = after block superblock options report cnv seq disk events
+
+  right : Right (mounting block superblock options report cnv seq .mount .volume) (kinds disk) w
+  right = right-after block superblock options report cnv seq disk start events
+
+  first : Mounts block superblock options report cnv seq
+  first = answers block superblock options report cnv seq (start .answer)
+
+  same-block : w .mount .volume .block ≡ block
+  unfolding mountOf
+  same-block = ap (λ (v : Volume). v .block) (right .same)
+
+  same-policy : w .mount .volume .policy ≡ policyOf (optionsOf options)
+  unfolding mountOf
+  same-policy = ap (λ (v : Volume). v .policy) (right .same)
+
+  same-files : w .mount .volume .sequential ≡ length (seqRows (fileZones report))
+  unfolding mountOf
+  same-files = ap (λ (v : Volume). v .sequential) (right .same)
+
+  -- A FRESH MOUNT
+  module _ (report′ cnv′ seq′ : List ℕ) (shows : Shows report′ (w .disk)) (sc : length cnv′ ≡ length cnv) (ss : length seq′ ≡ length seq) where
+    seqs-again : length (seqRows (fileZones report′)) ≡ w .mount .volume .sequential
+    unfolding fileZones
+    seqs-again = seq-count (right .files) (shows .zones)
+
+    cnvs-again : length (cnvRows (aggregated superblock) (fileZones report′)) ≡ length (cnvRows (aggregated superblock) (fileZones report))
+    unfolding fileZones
+    cnvs-again = cnv-count (aggregated superblock) (shows .zones) (start .shows .zones) (right .zones)
+
+    again : Mounts block superblock options report′ cnv′ seq′
+    again = record {
+      blocked = first .blocked;
+      checked = first .checked;
+      chosen = first .chosen;
+      reported = report-good (blockSectors block) report′ (shows .header)
+          (subst (λ n. length (zonesOf report′) ≤ goodRun (blockSectors n) 0 (zonesOf report′)) same-block (run-good (right .files) (shows .zones)));
+      cnvRoom = rw (cnvs-again, sc) (first .cnvRoom);
+      seqRoom = rw (seqs-again, same-files, ss) (first .seqRoom);
+    }
+
+    fresh-row : (n : ℕ) → n < w .mount .volume .sequential → rowAt (fill seq′ (seqRows (fileZones report′))) n ≡ Good (shownRow (zoneOf w n))
+    unfolding fileZones
+    fresh-row n h =
+        let inside : n < length (seqRows (drop 1 (zonesOf report′))) = omega (arith, h, seq-count (right .files) (shows .zones)) in
+        fill-listed seq′ (seqRows (drop 1 (zonesOf report′))) .row n inside ∙ ap Good (shown (right .files) (shows .zones) n h .row)
+
+    compares : (n : ℕ) → n < w .mount .volume .sequential → storyOf w n .quiet ≡ true
+        → Compares (policyOf (optionsOf options)) (storyOf w n) (zoneOf w n) (fill seq′ (seqRows (fileZones report′))) (w .seq) n
+    compares n h q = record {
+      row = getD (right .rows) n noRow;
+      other = shownRow (zoneOf w n);
+      here = right .listed .row n h;
+      there = fresh-row n h;
+      promised = subst (λ p. AsPromised p (storyOf w n) (zoneOf w n) (shownRow (zoneOf w n)) (getD (right .rows) n noRow)) same-policy (promised (shown (right .files) (shows .zones) n h .agrees) q);
+    }
+
+    consistent : Consistent block superblock options report′ cnv′ seq′ w
+    unfolding mountOf
+    consistent =
+        let g = mount-gives block superblock options report′ cnv′ seq′ again in
+        record { answer = rw g; files = rw g seqs-again; rows = rw g compares }
+
+-- THE CLAIM
+pub demand3 : Demand3
+unfolding Demand3
+demand3 block superblock options report cnv seq disk start events idle report′ cnv′ seq′ shows sc ss =
+    consistent block superblock options report cnv seq disk start events report′ cnv′ seq′ shows sc ss
+
+-- A COMPLETION is answered 0 or 7.
+reply-number : (t : Bool) (c : Command) (r : Row) → answerNumber (replied t c r) ≡ cond t 0 7
+reply-number true c r = refl
+reply-number false c r = refl
+
+pub always-digested : AlwaysDigested
+unfolding AlwaysDigested
+always-digested block superblock options report cnv seq disk start events h e o = by (h .kind) (h .number) (h .command) e
+  where
+    w : World
+    w = after block superblock options report cnv seq disk events
+
+    r : Right (mounting block superblock options report cnv seq .mount .volume) (kinds disk) w
+    r = right-after block superblock options report cnv seq disk start events
+
+    by : (k : FileKind) (n : ℕ) (c : Command) → w .mount .outstanding ≡ Busy (holdOf k n c) → let done = performAt w (zoneHolding (w .disk) (c .address)) c o in
+        answerNumber (digestOf (w .mount) (w .cnv) (w .seq) (truthful done) .outcome .answer) ≡ cond (done .succeeded) 0 7
+    by Sequential n c e = ap answerNumber (seq-digested r n c o e .answer) ∙ reply-number (performAt w (zoneHolding (w .disk) (c .address)) c o .succeeded) c (new r Sequential n c e o)
+    by Conventional n c e = ap answerNumber (cnv-digested r n c o e .answer) ∙ reply-number (performAt w (zoneHolding (w .disk) (c .address)) c o .succeeded) c (new r Conventional n c e o)
