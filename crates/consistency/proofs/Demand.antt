@@ -3,7 +3,7 @@
 use mathlib.Core.Bool.{Bool, true, false, cond}
 use mathlib.Core.List.{List, map}
 use mathlib.Core.Path.{_≡_, refl, sym, ap, _∙_, subst}
-use Prim.Native.Nat.{ℕ, _+_, _*_, _/_, _≤_, _<_}
+use Prim.Native.Nat.{ℕ, suc, _+_, _*_, _/_, _≤_, _<_}
 use native.Mathlib.Omega.{arith}
 use lib.ListN.{length, getD, drop}
 use Rattle.types.specs.declared.Row.{Row}
@@ -24,7 +24,8 @@ use Rattle.table.specs.declared.Slot.the-variants.{Good}
 use Rattle.table.specs.Rows.{rowsLent, rowAt}
 use Rattle.superblock.specs.SuperBlock.{superRead}
 use Rattle.options.specs.Options.{optionsOf}
-use Rattle.zones.specs.Report.{zonesOf, goodRun}
+use Rattle.zones.specs.declared.Zone.{Zone}
+use Rattle.zones.specs.Report.{zoneCount, zonesOf, goodRun}
 use Rattle.mount.specs.Files.{cnvRows, seqRows}
 use Rattle.mount.specs.Fill.{fill}
 use Rattle.mount.specs.Mount.{Mounting, fileZones, policyOf, aggregated, mountOf, tableAfter, mountAnswer, mountOutcome}
@@ -32,17 +33,20 @@ use Rattle.completion.specs.Completions.{digestOf}
 use Rattle.consistency.specs.Disk.{DiskZone, Choice}
 use Rattle.consistency.specs.Story.{Story, atMount}
 use Rattle.consistency.specs.Shows.{Shows, ShowsZones}
+use Rattle.consistency.specs.Shows as shows
 use Rattle.consistency.specs.World.{World, Event, run, mounted, zoneOf, storyOf, zoneHolding, performAt, truthful}
 use Rattle.consistency.specs.Claim.{AsPromised}
-use Rattle.consistency.specs.Demand.{Compares, Start, after, Consistent, Demand3, AlwaysDigested}
+use Rattle.consistency.specs.Demand.{Compares, Start, after, Consistent, Demand3, CanReport, AlwaysDigested}
 use Rattle.consistency.proofs.Promised.{shownRow, promised}
 use Rattle.consistency.proofs.Bridge.{noRow, Listed, fill-listed}
-use Rattle.consistency.proofs.Files.{kinds}
+use Rattle.consistency.proofs.Sound.{Sound}
+use Rattle.consistency.proofs.Files.{Files, none, other, file, kinds}
 use Rattle.consistency.proofs.Digests.{holdOf}
 use Rattle.consistency.proofs.Steps.{Right, right-run, new, seq-digested, cnv-digested, replied}
-use Rattle.consistency.proofs.Mounts.{Mounts, mounts, mount-answered, report-runs, report-good}
+use Rattle.consistency.proofs.Mounts.{Mounts, mounts, mount-answered, zones-count, header-count, report-runs, report-good}
 use Rattle.consistency.proofs.Start.{files-start, covers-start, covers-nth}
-use Rattle.consistency.proofs.Fresh.{run-good, seq-count, shown, cnv-count}
+use Rattle.consistency.proofs.Fresh.{run-good, seq-count, shown, cnv-count, map-length}
+use Rattle.consistency.proofs.Report.{All, nil, cons, reportOf, report-shows, report-bytes}
 
 module _ (block : ℕ) (superblock options report cnv seq : List ℕ) where
   abbrev cnvs : List Row
@@ -182,3 +186,29 @@ always-digested block superblock options report cnv seq disk start events h e o 
         answerNumber (digestOf (w .mount) (w .cnv) (w .seq) (truthful done) .outcome .answer) ≡ cond (done .succeeded) 0 7
     by Sequential n c e = ap answerNumber (seq-digested r n c o e .answer) ∙ reply-number (performAt w (zoneHolding (w .disk) (c .address)) c o .succeeded) c (new r Sequential n c e o)
     by Conventional n c e = ap answerNumber (cnv-digested r n c o e .answer) ∙ reply-number (performAt w (zoneHolding (w .disk) (c .address)) c o .succeeded) c (new r Conventional n c e o)
+
+-- A REPORT that shows the disk
+sound-zones : {b : ℕ} {p : ErrorPolicy} {at : ℕ} {zs : List DiskZone} {ss : List Story} {rows : List Row} {k : ℕ} → Files b p at zs ss rows k → All (Sound b) zs
+sound-zones none = nil
+sound-zones (other e f s t) = cons s (sound-zones t)
+sound-zones (file e a t) = cons (a .sound) (sound-zones t)
+
+shown-length : {rs : List Zone} {zs : List DiskZone} → ShowsZones rs zs → length rs ≡ length zs
+shown-length shows.none = refl
+shown-length (shows.next w ws) = ap suc (shown-length ws)
+
+kinds-length : (zs ys : List DiskZone) → kinds zs ≡ kinds ys → length zs ≡ length ys
+kinds-length zs ys e = sym (map-length (λ (z : DiskZone). z .kind) zs) ∙ ap length e ∙ map-length (λ (z : DiskZone). z .kind) ys
+
+pub can-report : CanReport
+unfolding CanReport
+can-report block superblock options report cnv seq disk start events =
+    let w = after block superblock options report cnv seq disk events in
+    let r = right-after block superblock options report cnv seq disk start events in
+    let same : length (w .disk) ≡ zoneCount report = kinds-length (w .disk) disk (r .zones) ∙ sym (shown-length (start .shows .zones)) ∙ zones-count report in
+    let (some, few) = header-count report (start .shows .header) in
+    record {
+      report = reportOf (w .disk);
+      bytes = report-bytes (w .disk);
+      shows = report-shows (w .disk) (sound-zones (r .files)) (omega (arith, same, some)) (omega (arith, same, few));
+    }

@@ -13,3 +13,4 @@ pub mod Mounts
 pub mod Start
 pub mod Fresh
 pub mod Demand
+pub mod Report

@@ -7,7 +7,7 @@ use Prim.Native.Nat.{ℕ, zero, suc, _+_, _/_, _≤_, _<_}
 use native.Mathlib.Omega.{arith}
 use lib.Dec.{leb, ltb, eqb}
 use lib.ListN.{length}
-use borrow.Author.Tests.{ltb-false, le-ltb, not-false}
+use borrow.Author.Tests.{leb-true, ltb-false, le-ltb, not-false}
 use Rattle.types.specs.Blocks.{blockSectors, goodBlock}
 use Rattle.types.specs.declared.Refusal.{Refusal}
 use Rattle.types.specs.declared.Refusal.the-variants.{NoFile, Busy, ReadOnlyMount, Denied, BeyondCapacity, Misplaced, Failed, NothingOutstanding, BadRecord, Impossible, BadBlock, SuperLength, SuperMagic, SuperChecksum, SuperFeatures, SuperOwner, SuperTail, BadOptions, BadReport, BadZone, TooFewRows}
@@ -15,7 +15,7 @@ use Rattle.types.specs.declared.ErrorPolicy.{ErrorPolicy}
 use Rattle.types.specs.declared.MountAnswer.{MountAnswer}
 use Rattle.types.specs.declared.MountAnswer.the-variants.{Refused, Mounted}
 use Rattle.types.specs.Numbers.{refusalNumber, mountNumber}
-use Rattle.types.proofs.Tests.{or-left, or-right}
+use Rattle.types.proofs.Tests.{and-left, and-right, or-left, or-right}
 use Rattle.table.specs.Rows.{rowsLent}
 use Rattle.superblock.specs.declared.SuperCheck.{SuperCheck}
 use Rattle.superblock.specs.declared.SuperCheck.the-variants as sc
@@ -152,3 +152,10 @@ unfolding reportCheck
 report-good unit b h l =
     let e : ltb (goodRun unit 0 (zonesOf b)) (zoneCount b) ≡ false = le-ltb (goodRun unit 0 (zonesOf b)) (zoneCount b) (omega (arith, l, zones-count b)) in
     rw (h, e)
+
+pub header-count : (b : List ℕ) → goodHeader b ≡ true → (1 ≤ zoneCount b) × (zoneCount b ≤ 1023)
+unfolding goodHeader
+header-count b h =
+    let some : leb 1 (zoneCount b) ≡ true = search (and-left, and-right) depth 9 in
+    let few : leb (zoneCount b) 1023 ≡ true = search (and-left, and-right) depth 9 in
+    (leb-true 1 (zoneCount b) some, leb-true (zoneCount b) 1023 few)

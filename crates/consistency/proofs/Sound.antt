@@ -224,7 +224,7 @@ reported-kind : (k : FileKind) → ofKind k (eqb (typeByte k) 1) (eqb (typeByte 
 reported-kind Conventional = refl
 reported-kind Sequential = refl
 
-kind-shown : (k : FileKind) (r : Zone) → r .kind ≡ typeByte k → showsKind k r ≡ true
+pub kind-shown : (k : FileKind) (r : Zone) → r .kind ≡ typeByte k → showsKind k r ≡ true
 kind-shown Conventional r e = eq-eqb _ _ e
 kind-shown Sequential r e = rw e
 
@@ -237,7 +237,7 @@ reported-healthy Sequential z = by (eqb (z .pointer) (z .start)) (eqb (z .pointe
     by false true = refl
     by false false = refl
 
-reported-condition : (c : Condition) (z : DiskZone) → showsCondition c z (conditionByte c z) ≡ true
+pub reported-condition : (c : Condition) (z : DiskZone) → showsCondition c z (conditionByte c z) ≡ true
 reported-condition Healthy z = reported-healthy (z .kind) z
 reported-condition ReadOnly z = refl
 reported-condition Offline z = refl
