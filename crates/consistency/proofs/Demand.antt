@@ -36,7 +36,7 @@ use Rattle.consistency.specs.Shows.{Shows, ShowsZones}
 use Rattle.consistency.specs.Shows as shows
 use Rattle.consistency.specs.World.{World, Event, run, mounted, zoneOf, storyOf, zoneHolding, performAt, truthful}
 use Rattle.consistency.specs.Claim.{AsPromised}
-use Rattle.consistency.specs.Demand.{Compares, Start, after, Consistent, Demand3, CanReport, AlwaysDigested}
+use Rattle.consistency.specs.Demand.{Compares, Start, after, Consistent, Demand3, AlwaysReported, AlwaysDigested}
 use Rattle.consistency.proofs.Promised.{shownRow, promised}
 use Rattle.consistency.proofs.Bridge.{noRow, Listed, fill-listed}
 use Rattle.consistency.proofs.Sound.{Sound}
@@ -46,7 +46,7 @@ use Rattle.consistency.proofs.Steps.{Right, right-run, new, seq-digeste
 use Rattle.consistency.proofs.Mounts.{Mounts, mounts, mount-answered, zones-count, header-count, report-runs, report-good}
 use Rattle.consistency.proofs.Start.{files-start, covers-start, covers-nth}
 use Rattle.consistency.proofs.Fresh.{run-good, seq-count, shown, cnv-count, map-length}
-use Rattle.consistency.proofs.Report.{All, nil, cons, reportOf, report-shows, report-bytes}
+use Rattle.consistency.proofs.Report.{All, nil, cons, report-shows, report-bytes}
 
 module _ (block : ℕ) (superblock options report cnv seq : List ℕ) where
   abbrev cnvs : List Row
@@ -200,15 +200,14 @@ shown-length (shows.next w ws) = ap suc (shown-length ws)
 kinds-length : (zs ys : List DiskZone) → kinds zs ≡ kinds ys → length zs ≡ length ys
 kinds-length zs ys e = sym (map-length (λ (z : DiskZone). z .kind) zs) ∙ ap length e ∙ map-length (λ (z : DiskZone). z .kind) ys
 
-pub can-report : CanReport
-unfolding CanReport
-can-report block superblock options report cnv seq disk start events =
+pub always-reported : AlwaysReported
+unfolding AlwaysReported
+always-reported block superblock options report cnv seq disk start events =
     let w = after block superblock options report cnv seq disk events in
     let r = right-after block superblock options report cnv seq disk start events in
     let same : length (w .disk) ≡ zoneCount report = kinds-length (w .disk) disk (r .zones) ∙ sym (shown-length (start .shows .zones)) ∙ zones-count report in
     let (some, few) = header-count report (start .shows .header) in
     record {
-      report = reportOf (w .disk);
       bytes = report-bytes (w .disk);
       shows = report-shows (w .disk) (sound-zones (r .files)) (omega (arith, same, some)) (omega (arith, same, few));
     }

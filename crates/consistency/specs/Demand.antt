@@ -17,6 +17,7 @@ use Rattle.completion.specs.Completions.{digestOf}
 use Rattle.consistency.specs.Disk.{DiskZone, Choice, Performed}
 use Rattle.consistency.specs.Story.{Story}
 use Rattle.consistency.specs.Shows.{Shows}
+use Rattle.consistency.specs.Report.{reportOf}
 use Rattle.consistency.specs.World.{World, Event, run, mounted, zoneOf, storyOf, zoneHolding, performAt, truthful}
 use Rattle.consistency.specs.Claim.{AsPromised}
 
@@ -55,16 +56,15 @@ Demand3 =
     → length cnv′ ≡ length cnv → length seq′ ≡ length seq
     → Consistent block superblock options report′ cnv′ seq′ (after block superblock options report cnv seq disk events)
 
--- Beside it: there always is a report, of bytes, that shows the disk as it is.
-pub record Reports (disk : List DiskZone) : Type 0 where
-  pub report : List ℕ
-  pub bytes : (i : ℕ) → getD report i 0 < 256
-  pub shows : Shows report disk
+-- Beside it: the disk's own report is one of bytes, and shows the disk as it is. So a fresh mount can always be made.
+pub record Reported (disk : List DiskZone) : Type 0 where
+  pub bytes : (i : ℕ) → getD (reportOf disk) i 0 < 256
+  pub shows : Shows (reportOf disk) disk
 
-unfoldable pub CanReport : Type 0
-CanReport =
+unfoldable pub AlwaysReported : Type 0
+AlwaysReported =
     (block : ℕ) (superblock options report cnv seq : List ℕ) (disk : List DiskZone) → Start block superblock options report cnv seq disk
-    → (events : List Event) → Reports (after block superblock options report cnv seq disk events .disk)
+    → (events : List Event) → Reported (after block superblock options report cnv seq disk events .disk)
 
 -- And the completion of an outstanding command, whatever the disk does with it, is answered 0 or 7, never 8, 9 or 10.
 unfoldable pub AlwaysDigested : Type 0

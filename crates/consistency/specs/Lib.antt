@@ -1,7 +1,9 @@
 pub mod Disk
-pub mod Shows
 pub mod Story
-pub mod Claim
-pub mod Frame
+pub mod Shows
+pub mod Report
 pub mod World
+pub mod Claim
 pub mod Demand
+pub mod Frame
+pub mod Cases
