@@ -1,0 +1,21 @@
+use borrow.Author.Needs.{needs}
+use Rattle.zones.proofs.written_size.Statement.{statement}
+use Rattle.zones.proofs.written_size.Tie as tie
+use Rattle.zones.proofs.written_size.Reads as reads
+use Rattle.zones.proofs.written_size.Lts as lts
+use Rattle.zones.proofs.bytes_of.Reads as bytes-of-reads
+
+-- src/lib.rt:127:14
+sub-bytes-of : tie.Need-sub-bytes-of
+sub-bytes-of c = ?
+
+-- src/lib.rt:127:5
+bytes-of-requires : tie.Need-bytes-of-requires
+bytes-of-requires c κs = ?
+
+-- src/lib.rt:123:1
+returns : tie.Need-returns
+returns c = search needs
+
+pub written-size-spec : {M : Type 1} → statement M
+written-size-spec = tie.close (tie.spec sub-bytes-of bytes-of-requires returns)
