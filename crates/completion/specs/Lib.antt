@@ -1,1 +1,3 @@
+pub mod Completions
 pub mod Grid
+pub mod Held
