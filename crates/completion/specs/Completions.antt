@@ -1,14 +1,12 @@
 -- "Completion and recovery": what a completion answers, the mount that it leaves, and the row that it stores.
-use Prim.Native.Nat.{ℕ, _+_, _*_, _<_, _^_}
-use mathlib.Core.Path.{_≡_}
+use Prim.Native.Nat.{ℕ, _+_}
 use mathlib.Core.List.{List}
-use mathlib.Core.Bool.{Bool, true, false, cond, _&&_}
+use mathlib.Core.Bool.{Bool, false, cond, _&&_}
 use lib.ListN.{length}
 use lib.Dec.{eqb, leb}
 use Rattle.types.specs.declared.Mount.{Mount}
 use Rattle.types.specs.declared.Row.{Row}
 use Rattle.types.specs.declared.Held.{Held}
-use Rattle.types.specs.declared.Outcome.{Outcome}
 use Rattle.types.specs.declared.FileKind.{FileKind}
 use Rattle.types.specs.declared.FileKind.the-variants.{Conventional, Sequential}
 use Rattle.types.specs.declared.Refusal.{Refusal}
@@ -16,7 +14,7 @@ use Rattle.types.specs.declared.Refusal.the-variants as refusal
 use Rattle.types.specs.declared.CommandKind.{CommandKind}
 use Rattle.types.specs.declared.CommandKind.the-variants as kind
 use Rattle.types.specs.declared.Command.{Command}
-use Rattle.types.specs.declared.Answer.the-variants.{Refused, Done}
+use Rattle.types.specs.declared.Answer.the-variants.{Done}
 use Rattle.types.specs.declared.Access.{Access}
 use Rattle.types.specs.declared.Access.the-variants as access
 use Rattle.types.specs.declared.ErrorPolicy.{ErrorPolicy}
@@ -25,6 +23,7 @@ use Rattle.types.specs.Blocks.{bytesOf, blockSectors}
 use Rattle.types.specs.Codes.{conditionCode}
 use Rattle.types.specs.Mounts.{cleared, readOnly}
 use Rattle.table.specs.Rows.{setRow, withSize, recoveredTo}
+use Rattle.calls.specs.Calls.{refusedWith}
 use Rattle.zones.specs.declared.Zone.{Zone}
 use Rattle.zones.specs.Zone.{zoneAt, conventional, sequential, conditionOf, healthy, writtenSize, goodRecord}
 use Rattle.zones.specs.Report.{zoneBytes}
@@ -61,7 +60,7 @@ stored Sequential (store.Put Sequential i r) t = setRow t i r
 
 -- "All but 7 change nothing."
 abbrev pub refusing : Mount → Refusal → Digest
-refusing m x = record { outcome = record { answer = Refused x; mount = m }; store = store.Nothing }
+refusing m x = record { outcome = refusedWith m x; store = store.Nothing }
 
 -- ---- "Success"
 
@@ -164,7 +163,7 @@ markedBy Repair m = m
 
 -- "answer 7, command cleared": the mount after it, the row that the file has then, and what is stored of it
 abbrev pub failing : Mount → Row → Store → Digest
-failing m r s = record { outcome = record { answer = Refused (refusal.Failed (r .size)); mount = m }; store = s }
+failing m r s = record { outcome = refusedWith m (refusal.Failed (r .size)); store = s }
 
 abbrev pub recovering : Mount → Held → Row → Digest
 recovering m h r = failing (markedBy (m .volume .policy) (cleared m)) r (store.Put (h .kind) (h .number) r)
