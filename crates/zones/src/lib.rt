@@ -266,7 +266,7 @@ pub fn good_header(b: &[u8]) -> bool
 {
     if HEADER_BYTES <= b.len() {
         let sector = wire::u64_at(b, 0);
-        let count = zone_count(b);
+        let count = wire::u32_at(b, 8) as usize;
         let flags = wire::u32_at(b, 12);
         (sector == 0)
             & (1 <= count)

@@ -11,7 +11,7 @@ u32-at-requires c κs = search needs
 
 -- src/lib.rt:256:1
 returns : tie.Need-returns
-returns c = ?
+returns c = rw (c .u32-at .ensures)
 
 pub capacity-given-spec : {M : Type 1} → statement M
 capacity-given-spec = tie.close (tie.spec u32-at-requires returns)

@@ -16,7 +16,7 @@ is-conventional-requires c κs = search needs
 
 -- src/lib.rt:144:1
 returns : tie.Need-returns
-returns c = ?
+returns c = rw (c .before .before .before .whole-blocks .ensures, c .before .before .is-conventional .ensures)
 
 pub good-capacity-spec : {M : Type 1} → statement M
 good-capacity-spec = tie.close (tie.spec whole-blocks-requires is-conventional-requires returns)

@@ -21,11 +21,11 @@ sequential-condition-requires c κs = search needs
 
 -- src/lib.rt:182:1
 returns : tie.Need-returns
-returns c = ?
+returns c = rw (← c .before .before .is-conventional .ensures, c .before .if1 .taken, c .conventional-condition .ensures)
 
 -- src/lib.rt:182:1
 returns-2 : tie.Need-returns-2
-returns-2 c = ?
+returns-2 c = rw (← c .before .before .is-conventional .ensures, c .before .if1 .left, c .sequential-condition .ensures)
 
 pub good-condition-spec : {M : Type 1} → statement M
 good-condition-spec =

@@ -16,7 +16,7 @@ points-well-requires c κs = search needs
 
 -- src/lib.rt:215:1
 returns : tie.Need-returns
-returns c = ?
+returns c = rw (c .before .is-pointed .ensures, c .points-well .ensures)
 
 pub good-pointer-spec : {M : Type 1} → statement M
 good-pointer-spec = tie.close (tie.spec is-pointed-requires points-well-requires returns)

@@ -1,3 +1,4 @@
+use Rattle.zones.specs.Zone.{goodRecord}
 use borrow.Author.Needs.{needs}
 use Rattle.zones.proofs.good_record.Statement.{statement}
 use Rattle.zones.proofs.good_record.Tie as tie
@@ -36,7 +37,8 @@ good-pointer-requires c κs = search needs
 
 -- src/lib.rt:225:1
 returns : tie.Need-returns
-returns c = ?
+unfolding goodRecord
+returns c = rw (c .before .before .before .before .before .good-length .ensures, c .before .before .before .before .good-capacity .ensures, c .before .before .before .good-end .ensures, c .before .before .good-type .ensures, c .before .good-condition .ensures, c .good-pointer .ensures)
 
 pub good-record-spec : {M : Type 1} → statement M
 good-record-spec =

@@ -1,3 +1,4 @@
+use Rattle.zones.specs.Zone.{goodZone}
 use borrow.Author.Needs.{needs}
 use Rattle.zones.proofs.good_zone.Statement.{statement}
 use Rattle.zones.proofs.good_zone.Tie as tie
@@ -11,7 +12,8 @@ good-record-requires c κs = search needs
 
 -- src/lib.rt:239:1
 returns : tie.Need-returns
-returns c = ?
+unfolding goodZone
+returns c = rw (c .before .good-record .ensures)
 
 pub good-zone-spec : {M : Type 1} → statement M
 good-zone-spec = tie.close (tie.spec good-record-requires returns)

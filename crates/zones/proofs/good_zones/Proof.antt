@@ -1,56 +1,55 @@
+use Rattle.zones.proofs.Laws.{zone-sound, zones-next, zones-done, run-good, run-bad, run-end}
+use Rattle.zones.specs.Report.{zonesOf, goodRun}
+use native.Mathlib.Omega.{arith}
+use mathlib.Core.List.{_∷_}
+use mathlib.Core.Path.{_≡_, _∙_, sym}
+use Prim.Native.Nat.{_+_, _-_, _≤_}
+use lib.ListN.{drop}
+use borrow.Author.Needs.{needs}
 use Rattle.zones.proofs.good_zones.Statement.{statement}
 use Rattle.zones.proofs.good_zones.Tie as tie
-use Rattle.zones.proofs.good_zones.Reads as reads
-use Rattle.zones.proofs.good_zones.Lts as lts
-use Rattle.zones.proofs.good_zone.Reads as good-zone-reads
-use Rattle.zones.proofs.zone_count.Reads as zone-count-reads
-use Rattle.zones.proofs.zone_of.Reads as zone-of-reads
 
 abbrev Inv-loop : tie.InvT-loop
-Inv-loop b unit count expected₀ i₀ expected i = ?
+Inv-loop b unit count expected₀ i₀ expected i = (i ≤ count) × (i + goodRun unit expected (drop i (zonesOf b)) ≡ goodRun unit 0 (zonesOf b))
 
 abbrev μ-loop : tie.MeasureT-loop
-μ-loop b unit count expected₀ i₀ expected i = ?
+μ-loop b unit count expected₀ i₀ expected i = count - i
 
--- src/lib.rt:295:9
 zone-count-requires : tie.Need-zone-count-requires Inv-loop μ-loop
-zone-count-requires c κs = ?
+zone-count-requires c κs = search needs
 
--- src/lib.rt:298:5
 loop-holds : tie.Need-loop-holds Inv-loop μ-loop
-loop-holds c = ?
+loop-holds c = search needs
 
--- src/lib.rt:299:13
 zone-of-requires : tie.Need-zone-of-requires Inv-loop μ-loop
-zone-of-requires c κs = ?
+zone-of-requires c κs = search needs
 
--- src/lib.rt:300:12
 good-zone-requires : tie.Need-good-zone-requires Inv-loop μ-loop
-good-zone-requires c κs = ?
+good-zone-requires c κs = search needs
 
--- src/lib.rt:301:24
 add-expected : tie.Need-add-expected Inv-loop μ-loop
-add-expected c = ?
+add-expected c = let s = zone-sound (c .before .before .before .before .before .before .before .before .args .unit) (c .before .before .before .before .before .loop .expected) (c .before .before .before .zone-of .result) (sym (c .before .before .good-zone .ensures) ∙ c .before .if1 .taken) in omega arith
 
--- src/lib.rt:302:13
 add-i : tie.Need-add-i Inv-loop μ-loop
-add-i c = ?
+add-i c = search needs
 
--- src/lib.rt:298:5
 loop-less : tie.Need-loop-less Inv-loop μ-loop
-loop-less c = ?
+loop-less c = search needs
 
--- src/lib.rt:298:5
 loop-again : tie.Need-loop-again Inv-loop μ-loop
-loop-again c = ?
+loop-again c = let l = c .before .before .before .before .before .loop in
+    let z = c .before .before .before .zone-of in
+    let next = zones-next (c .before .before .before .before .before .before .before .before .args .b .now) (l .i) (z .result) (z .ensures) (omega arith) in
+    (search needs, omega (arith, run-good (c .before .before .before .before .before .before .before .before .args .unit) (l .expected) (z .result) _ _ next (sym (c .before .before .good-zone .ensures) ∙ c .before .if1 .taken)))
 
--- src/lib.rt:304:13
 returns : tie.Need-returns Inv-loop μ-loop
-returns c = ?
+returns c = let l = c .before .before .before .before .loop in
+    let z = c .before .before .zone-of in
+    let next = zones-next (c .before .before .before .before .before .before .before .args .b .now) (l .i) (z .result) (z .ensures) (omega arith) in
+    omega (arith, run-bad (c .before .before .before .before .before .before .before .args .unit) (l .expected) (z .result) _ _ next (sym (c .before .good-zone .ensures) ∙ c .if1 .left))
 
--- src/lib.rt:291:1
 returns-2 : tie.Need-returns-2 Inv-loop μ-loop
-returns-2 c = ?
+returns-2 c = let l = c .before .loop in omega (arith, run-end (c .before .before .before .before .args .unit) (l .expected) _ (zones-done (c .before .before .before .before .args .b .now) (l .i) (omega arith)))
 
 pub good-zones-spec : {M : Type 1} → statement M
 good-zones-spec =

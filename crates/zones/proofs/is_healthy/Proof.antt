@@ -16,7 +16,7 @@ condition-is-healthy-requires c κs = search needs
 
 -- src/lib.rt:116:1
 returns : tie.Need-returns
-returns c = ?
+returns c = rw (c .condition-is-healthy .ensures, c .before .condition-of .ensures)
 
 pub is-healthy-spec : {M : Type 1} → statement M
 is-healthy-spec = tie.close (tie.spec condition-of-requires condition-is-healthy-requires returns)

@@ -16,7 +16,7 @@ is-healthy-requires c κs = search needs
 
 -- src/lib.rt:193:1
 returns : tie.Need-returns
-returns c = ?
+returns c = rw (c .is-healthy .ensures, c .before .is-sequential .ensures)
 
 pub is-pointed-spec : {M : Type 1} → statement M
 is-pointed-spec = tie.close (tie.spec is-sequential-requires is-healthy-requires returns)

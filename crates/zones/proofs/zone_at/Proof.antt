@@ -57,7 +57,7 @@ capacity-of-requires c κs = search needs
 
 -- src/lib.rt:61:1
 returns : tie.Need-returns
-returns c = ?
+returns c = cc
 
 pub zone-at-spec : {M : Type 1} → statement M
 zone-at-spec =

@@ -24,7 +24,7 @@ zone-at-requires c κs = search needs
 
 -- src/lib.rt:282:1
 returns : tie.Need-returns
-returns c = ?
+returns c = rw (c .zone-at .ensures, c .before .capacity-given .ensures)
 
 pub zone-of-spec : {M : Type 1} → statement M
 zone-of-spec =
