@@ -1,0 +1,15 @@
+use Rattle.calls.proofs.checks.ends_by.Statement.{statement}
+use Rattle.calls.proofs.checks.ends_by.Tie as tie
+use Rattle.calls.proofs.checks.ends_by.Reads as reads
+use Rattle.calls.proofs.checks.ends_by.Lts as lts
+
+-- src/checks.rt:121:1
+returns : tie.Need-returns
+returns c = ?
+
+-- src/checks.rt:121:1
+returns-2 : tie.Need-returns-2
+returns-2 c = ?
+
+pub ends-by-spec : {M : Type 1} → statement M
+ends-by-spec = tie.close (tie.spec returns returns-2)

@@ -1,0 +1,31 @@
+use borrow.Author.Needs.{needs}
+use Rattle.calls.proofs.rows.flush_row.Statement.{statement}
+use Rattle.calls.proofs.rows.flush_row.Tie as tie
+use Rattle.calls.proofs.rows.flush_row.Reads as reads
+use Rattle.calls.proofs.rows.flush_row.Lts as lts
+use Rattle.calls.proofs.rows.file_command.Reads as file-command-reads
+use Rattle.calls.proofs.rows.is_unwritable.Reads as is-unwritable-reads
+
+-- src/rows.rt:168:9
+returns : tie.Need-returns
+returns c = ?
+
+-- src/rows.rt:171:8
+is-unwritable-requires : tie.Need-is-unwritable-requires
+is-unwritable-requires c κs = search needs
+
+-- src/rows.rt:172:9
+returns-2 : tie.Need-returns-2
+returns-2 c = ?
+
+-- src/rows.rt:174:19
+file-command-requires : tie.Need-file-command-requires
+file-command-requires c κs = search needs
+
+-- src/rows.rt:163:1
+returns-3 : tie.Need-returns-3
+returns-3 c = ?
+
+pub flush-row-spec : {M : Type 1} → statement M
+flush-row-spec =
+    tie.close (tie.spec returns is-unwritable-requires returns-2 file-command-requires returns-3)

@@ -1,0 +1,59 @@
+use borrow.Author.Needs.{needs}
+use Rattle.calls.proofs.rows.write_row.Statement.{statement}
+use Rattle.calls.proofs.rows.write_row.Tie as tie
+use Rattle.calls.proofs.rows.write_row.Reads as reads
+use Rattle.calls.proofs.rows.write_row.Lts as lts
+use Rattle.calls.proofs.rows.is_beyond.Reads as is-beyond-reads
+use Rattle.calls.proofs.rows.is_misplaced.Reads as is-misplaced-reads
+use Rattle.calls.proofs.rows.is_unwritable.Reads as is-unwritable-reads
+use Rattle.calls.proofs.rows.transferred.Reads as transferred-reads
+
+-- src/rows.rt:126:9
+returns : tie.Need-returns
+returns c = ?
+
+-- src/rows.rt:129:8
+is-unwritable-requires : tie.Need-is-unwritable-requires
+is-unwritable-requires c κs = search needs
+
+-- src/rows.rt:130:9
+returns-2 : tie.Need-returns-2
+returns-2 c = ?
+
+-- src/rows.rt:132:8
+is-beyond-requires : tie.Need-is-beyond-requires
+is-beyond-requires c κs = search needs
+
+-- src/rows.rt:133:9
+returns-3 : tie.Need-returns-3
+returns-3 c = ?
+
+-- src/rows.rt:136:8
+is-misplaced-requires : tie.Need-is-misplaced-requires
+is-misplaced-requires c κs = search needs
+
+-- src/rows.rt:137:9
+returns-4 : tie.Need-returns-4
+returns-4 c = ?
+
+-- src/rows.rt:139:5
+transferred-requires : tie.Need-transferred-requires
+transferred-requires c κs = ?
+
+-- src/rows.rt:121:1
+returns-5 : tie.Need-returns-5
+returns-5 c = ?
+
+pub write-row-spec : {M : Type 1} → statement M
+write-row-spec =
+    tie.close
+    (tie.spec
+    returns
+    is-unwritable-requires
+    returns-2
+    is-beyond-requires
+    returns-3
+    is-misplaced-requires
+    returns-4
+    transferred-requires
+    returns-5)
