@@ -122,9 +122,13 @@ abbrev pub fixedSize : FileKind → Zone → ℕ → ℕ
 fixedSize Conventional z size = size
 fixedSize Sequential z size = writtenSize z
 
--- "A failed read with a healthy record and, for seq, size equal to the pointer recovers nothing."
+-- "with a healthy record and, for seq, size equal to the pointer"
+abbrev pub unharmed : FileKind → Zone → ℕ → Bool
+unharmed k z size = healthy z && eqb size (fixedSize k z size)
+
+-- "A failed read with .. recovers nothing."
 abbrev pub nothingLost : FileKind → CommandKind → Zone → ℕ → Bool
-nothingLost k kind.Read z size = healthy z && eqb size (fixedSize k z size)
+nothingLost k kind.Read z size = unharmed k z size
 nothingLost k kind.Write z size = false
 nothingLost k kind.Reset z size = false
 nothingLost k kind.Finish z size = false

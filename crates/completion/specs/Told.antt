@@ -1,9 +1,16 @@
 -- What functions that are called only after some test ask for. No outcome is defined here.
 use Prim.Native.Nat.{ℕ, _<_}
+use mathlib.Core.Path.{_≡_}
+use mathlib.Core.Bool.{true}
 use mathlib.Core.List.{List}
 use lib.ListN.{length}
+use Rattle.types.specs.declared.FileKind.{FileKind}
+use Rattle.types.specs.declared.FileKind.the-variants.{Sequential}
 use Rattle.table.specs.Rows.{rowsLent}
 use Rattle.calls.specs.Checks.{ofKind}
+use Rattle.zones.specs.declared.Zone.{Zone}
+use Rattle.zones.specs.Zone.{sequential, pointed}
+use Rattle.zones.specs.Told.{Sound}
 use Rattle.completion.specs.declared.Store.{Store}
 use Rattle.completion.specs.declared.Store.the-variants as store
 
@@ -11,3 +18,13 @@ use Rattle.completion.specs.declared.Store.the-variants as store
 abbrev pub StoreFits : List ℕ → List ℕ → Store → Type 0
 StoreFits cnv seq store.Nothing = Unit
 StoreFits cnv seq (store.Put k i r) = i < rowsLent (length (ofKind k cnv seq))
+
+-- of a record that fits a file of this kind
+pub record Fitting (k : FileKind) (z : Zone) : Type 0 where
+  pub sound : Sound z
+  pub alike : k ≡ Sequential → sequential z ≡ true
+
+-- of one that gives the file's size: a sequential file's by a pointer that was looked at
+pub record Sizing (k : FileKind) (z : Zone) : Type 0 where
+  pub sound : Sound z
+  pub pointing : k ≡ Sequential → pointed z ≡ true

@@ -3,12 +3,18 @@ pub mod grid; // the recovery table
 pub mod held; // the held command, and whether a call would issue it
 
 ghost use mathlib.Core.Path.{_≡_};
-ghost use Prim.Native.Nat.{_+_, _<_, _^_};
+ghost use mathlib.Core.Bool.{true};
+ghost use Prim.Native.Nat.{_+_, _/_, _<_, _≤_, _^_};
 ghost use Rattle.types.specs.declared.FileKind.the-variants as files;
 ghost use Rattle.types.specs.declared.CommandKind.the-variants as commands;
-ghost use Rattle.completion.specs.Completions.{stored, refusing, sizeAfter, countOf, succeeded, readAtMost, ruledAccess, markedBy, failing, recovering};
-ghost use Rattle.completion.specs.Told.{StoreFits};
+ghost use Rattle.completion.specs.Completions.{stored, refusing, sizeAfter, countOf, succeeded, matchesSequential, withinConventional, recordFits, fixedSize, unharmed, nothingLost, ruledSize, readAtMost, ruledAccess, recoveredRow, markedBy, failing, recovering, recovered};
+ghost use Rattle.completion.specs.Told.{StoreFits, Fitting, Sizing};
+ghost use Rattle.completion.specs.declared.grid.SizeRule.the-variants as rules;
+ghost use Rattle.types.specs.Blocks.{sectorBytes};
+ghost use Rattle.zones.specs.Zone.{healthy};
+ghost use Rattle.zones.specs.Told.{Sound};
 use grid::AccessRule;
+use grid::SizeRule;
 use types::Access;
 use types::Answer;
 use types::CommandKind;
@@ -19,6 +25,7 @@ use types::Mount;
 use types::Outcome;
 use types::Refusal;
 use types::Row;
+use zones::Zone;
 
 // What a completion stores: nothing, or the row of a file.
 pub enum Store {
@@ -43,6 +50,18 @@ fn put_store(cnv: &mut [u64], seq: &mut [u64], store: Store)
             FileKind::Conventional => table::put_row(cnv, number as usize, row),
             FileKind::Sequential => table::put_row(seq, number as usize, row),
         },
+    }
+}
+
+fn refuse(m: Mount, x: Refusal) -> Digest
+    ensures { λ r. ⌜ r ≡ refusing m x ⌝ }
+{
+    Digest {
+        outcome: Outcome {
+            answer: Answer::Refused(x),
+            mount: m,
+        },
+        store: Store::Nothing,
     }
 }
 
@@ -94,6 +113,88 @@ fn succeed(m: Mount, h: Held, row: Row) -> Digest
     }
 }
 
+fn matches_sequential(row: Row, z: Zone) -> bool
+    requires { ⌜ Sound z ⌝ }
+    ensures { λ r. ⌜ r ≡ matchesSequential row z ⌝ }
+{
+    let before = row.condition;
+    let now = zones::condition_of(z);
+    zones::is_sequential(z)
+        & (z.start == row.start)
+        & (zones::bytes_of(z.capacity) == row.capacity)
+        & (types::condition_code(before) <= types::condition_code(now))
+}
+
+fn within_conventional(row: Row, z: Zone) -> bool
+    requires { ⌜ Sound z × (row .start + row .capacity / sectorBytes ≤ 2 ^ 40) ⌝ }
+    ensures { λ r. ⌜ r ≡ withinConventional row z ⌝ }
+{
+    zones::is_conventional(z)
+        & (row.start <= z.start)
+        & (zones::bytes_of(z.start + z.length) <= zones::bytes_of(row.start) + row.capacity)
+}
+
+// Check 9.
+fn record_fits(block: u64, kind: FileKind, row: Row, z: Zone) -> bool
+    requires { ⌜ (sectorBytes ≤ block) × (row .start + row .capacity / sectorBytes ≤ 2 ^ 40) ⌝ }
+    ensures { λ r. ⌜ r ≡ recordFits block kind row z ⌝ }
+    ensures { λ r. ⌜ (r ≡ true → Fitting kind z) ⌝ }
+{
+    if !zones::good_record(z, zones::block_sectors(block)) {
+        return false;
+    }
+    match kind {
+        FileKind::Conventional => within_conventional(row, z),
+        FileKind::Sequential => matches_sequential(row, z),
+    }
+}
+
+fn fixed_size(kind: FileKind, z: Zone, size: u64) -> u64
+    requires { ⌜ Sizing kind z ⌝ }
+    ensures { λ r. ⌜ r ≡ fixedSize kind z size ⌝ }
+{
+    match kind {
+        FileKind::Conventional => size,
+        FileKind::Sequential => zones::written_size(z),
+    }
+}
+
+// A healthy record that tells the size that the file has. The pointer of any other record says nothing.
+fn is_unharmed(kind: FileKind, z: Zone, size: u64) -> bool
+    requires { ⌜ Fitting kind z ⌝ }
+    ensures { λ r. ⌜ r ≡ unharmed kind z size ⌝ }
+{
+    if zones::is_healthy(z) {
+        size == fixed_size(kind, z, size)
+    } else {
+        false
+    }
+}
+
+fn nothing_lost(kind: FileKind, failed: CommandKind, z: Zone, size: u64) -> bool
+    requires { ⌜ Fitting kind z ⌝ }
+    ensures { λ r. ⌜ r ≡ nothingLost kind failed z size ⌝ }
+{
+    match failed {
+        CommandKind::Read => is_unharmed(kind, z, size),
+        CommandKind::Write => false,
+        CommandKind::Reset => false,
+        CommandKind::Finish => false,
+        CommandKind::Flush => false,
+    }
+}
+
+fn ruled_size(rule: SizeRule, kind: FileKind, z: Zone, size: u64) -> u64
+    requires { ⌜ Fitting kind z × (rule ≡ rules.Fixed → healthy z ≡ true) ⌝ }
+    ensures { λ r. ⌜ r ≡ ruledSize rule kind z size ⌝ }
+{
+    match rule {
+        SizeRule::Fixed => fixed_size(kind, z, size),
+        SizeRule::AsIs => size,
+        SizeRule::Zero => 0,
+    }
+}
+
 fn read_at_most(access: Access) -> Access
     ensures { λ r. ⌜ r ≡ readAtMost access ⌝ }
 {
@@ -114,6 +215,20 @@ fn ruled_access(rule: AccessRule, access: Access) -> Access
     }
 }
 
+fn recovered_row(policy: ErrorPolicy, kind: FileKind, z: Zone, row: Row) -> Row
+    requires { ⌜ Fitting kind z ⌝ }
+    ensures { λ r. ⌜ r ≡ recoveredRow policy kind z row ⌝ }
+{
+    let condition = zones::condition_of(z);
+    let rule = grid::rule_of(grid::recovery_grid(), policy, condition);
+    let size_rule = rule.size;
+    let access_rule = rule.access;
+    let before = row.access;
+    let size = ruled_size(size_rule, kind, z, row.size);
+    let access = ruled_access(access_rule, before);
+    table::recovered_to(row, size, condition, access)
+}
+
 fn marked_by(policy: ErrorPolicy, m: Mount) -> Mount
     ensures { λ r. ⌜ r ≡ markedBy policy m ⌝ }
 {
@@ -123,4 +238,42 @@ fn marked_by(policy: ErrorPolicy, m: Mount) -> Mount
         ErrorPolicy::ZoneOffline => m,
         ErrorPolicy::Repair => m,
     }
+}
+
+// The command failed: the mount after it, the row that its file has then, and what is stored of it.
+fn failing_with(m: Mount, row: Row, store: Store) -> Digest
+    ensures { λ r. ⌜ r ≡ failing m row store ⌝ }
+{
+    Digest {
+        outcome: Outcome {
+            answer: Answer::Refused(Refusal::Failed(row.size)),
+            mount: m,
+        },
+        store,
+    }
+}
+
+fn recovering_to(m: Mount, h: Held, row: Row) -> Digest
+    ensures { λ r. ⌜ r ≡ recovering m h row ⌝ }
+{
+    let volume = m.volume;
+    let policy = volume.policy;
+    let kind = h.kind;
+    let mount = marked_by(policy, types::without_held(m));
+    failing_with(mount, row, Store::Put(kind, h.number, row))
+}
+
+fn recover(m: Mount, h: Held, row: Row, z: Zone) -> Digest
+    requires { ⌜ Fitting (h .kind) z ⌝ }
+    ensures { λ r. ⌜ r ≡ recovered m h row z ⌝ }
+{
+    let command = h.command;
+    let failed = command.kind;
+    let kind = h.kind;
+    if nothing_lost(kind, failed, z, row.size) {
+        return failing_with(types::without_held(m), row, Store::Nothing);
+    }
+    let volume = m.volume;
+    let policy = volume.policy;
+    recovering_to(m, h, recovered_row(policy, kind, z, row))
 }

@@ -1,0 +1,26 @@
+use borrow.Author.Needs.{needs}
+use Rattle.completion.proofs.is_unharmed.Statement.{statement}
+use Rattle.completion.proofs.is_unharmed.Tie as tie
+use Rattle.completion.proofs.is_unharmed.Reads as reads
+use Rattle.completion.proofs.is_unharmed.Lts as lts
+use Rattle.completion.proofs.fixed_size.Reads as fixed-size-reads
+use Rattle.zones.proofs.is_healthy.Reads as is-healthy-reads
+
+-- src/lib.rt:167:8
+is-healthy-requires : tie.Need-is-healthy-requires
+is-healthy-requires c κs = search needs
+
+-- src/lib.rt:168:17
+fixed-size-requires : tie.Need-fixed-size-requires
+fixed-size-requires c κs = ?
+
+-- src/lib.rt:163:1
+returns : tie.Need-returns
+returns c = ?
+
+-- src/lib.rt:163:1
+returns-2 : tie.Need-returns-2
+returns-2 c = ?
+
+pub is-unharmed-spec : {M : Type 1} → statement M
+is-unharmed-spec = tie.close (tie.spec is-healthy-requires fixed-size-requires returns returns-2)

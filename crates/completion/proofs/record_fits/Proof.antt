@@ -1,0 +1,59 @@
+use borrow.Author.Needs.{needs}
+use Rattle.completion.proofs.record_fits.Statement.{statement}
+use Rattle.completion.proofs.record_fits.Tie as tie
+use Rattle.completion.proofs.record_fits.Reads as reads
+use Rattle.completion.proofs.record_fits.Lts as lts
+use Rattle.completion.proofs.matches_sequential.Reads as matches-sequential-reads
+use Rattle.completion.proofs.within_conventional.Reads as within-conventional-reads
+use Rattle.zones.proofs.block_sectors.Reads as block-sectors-reads
+use Rattle.zones.proofs.good_record.Reads as good-record-reads
+
+-- src/lib.rt:143:31
+block-sectors-requires : tie.Need-block-sectors-requires
+block-sectors-requires c κs = search needs
+
+-- src/lib.rt:143:9
+good-record-requires : tie.Need-good-record-requires
+good-record-requires c κs = search needs
+
+-- src/lib.rt:144:9
+returns : tie.Need-returns
+returns c = ?
+
+-- src/lib.rt:147:35
+enum-told : tie.Need-enum-told
+enum-told c = search needs
+
+-- src/lib.rt:147:35
+within-conventional-requires : tie.Need-within-conventional-requires
+within-conventional-requires c κs = ?
+
+-- src/lib.rt:148:33
+enum-told-2 : tie.Need-enum-told-2
+enum-told-2 c = search needs
+
+-- src/lib.rt:148:33
+matches-sequential-requires : tie.Need-matches-sequential-requires
+matches-sequential-requires c κs = ?
+
+-- src/lib.rt:138:1
+returns-2 : tie.Need-returns-2
+returns-2 c = ?
+
+-- src/lib.rt:138:1
+returns-3 : tie.Need-returns-3
+returns-3 c = ?
+
+pub record-fits-spec : {M : Type 1} → statement M
+record-fits-spec =
+    tie.close
+    (tie.spec
+    block-sectors-requires
+    good-record-requires
+    returns
+    enum-told
+    within-conventional-requires
+    enum-told-2
+    matches-sequential-requires
+    returns-2
+    returns-3)
