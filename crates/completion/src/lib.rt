@@ -138,7 +138,6 @@ fn within_conventional(row: Row, z: Zone) -> bool
 fn record_fits(block: u64, kind: FileKind, row: Row, z: Zone) -> bool
     requires { ⌜ (sectorBytes ≤ block) × (row .start + row .capacity / sectorBytes ≤ 2 ^ 40) ⌝ }
     ensures { λ r. ⌜ r ≡ recordFits block kind row z ⌝ }
-    ensures { λ r. ⌜ (r ≡ true → Fitting kind z) ⌝ }
 {
     if !zones::good_record(z, zones::block_sectors(block)) {
         return false;

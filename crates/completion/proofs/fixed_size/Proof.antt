@@ -15,7 +15,7 @@ enum-told-2 c = search needs
 
 -- src/lib.rt:158:33
 written-size-requires : tie.Need-written-size-requires
-written-size-requires c κs = ?
+written-size-requires c κs = (c .before .before .pre .sound, c .before .before .pre .pointing (c .enum-told2 .given .1))
 
 -- src/lib.rt:152:1
 returns : tie.Need-returns
@@ -23,7 +23,7 @@ returns c = search needs
 
 -- src/lib.rt:152:1
 returns-2 : tie.Need-returns-2
-returns-2 c = ?
+returns-2 c = simp (c .before .enum-told2 .given .1, c .written-size .ensures)
 
 pub fixed-size-spec : {M : Type 1} → statement M
 fixed-size-spec =

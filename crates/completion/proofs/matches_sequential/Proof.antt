@@ -1,3 +1,4 @@
+use Rattle.completion.specs.Completions.{matchesSequential}
 use borrow.Author.Needs.{needs}
 use Rattle.completion.proofs.matches_sequential.Statement.{statement}
 use Rattle.completion.proofs.matches_sequential.Tie as tie
@@ -30,7 +31,8 @@ condition-code-requires-2 c κs = search needs
 
 -- src/lib.rt:116:1
 returns : tie.Need-returns
-returns c = ?
+unfolding matchesSequential
+returns c = simp (c .before .before .before .before .before .before .is-sequential .ensures, c .before .before .before .bytes-of .ensures, c .before .condition-code .ensures .0, c .condition-code2 .ensures .0, c .before .before .before .before .before .before .before .condition-of .ensures)
 
 pub matches-sequential-spec : {M : Type 1} → statement M
 matches-sequential-spec =

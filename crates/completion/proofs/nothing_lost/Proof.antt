@@ -31,7 +31,7 @@ enum-told-5 c = search needs
 
 -- src/lib.rt:174:1
 returns : tie.Need-returns
-returns c = ?
+returns c = simp (c .before .enum-told .given .1, c .is-unharmed .ensures)
 
 -- src/lib.rt:174:1
 returns-2 : tie.Need-returns-2

@@ -1,3 +1,5 @@
+use mathlib.Core.Path.{_∙_, sym}
+use Rattle.completion.specs.Completions.{recovered}
 use borrow.Author.Needs.{needs}
 use Rattle.completion.proofs.recover.Statement.{statement}
 use Rattle.completion.proofs.recover.Tie as tie
@@ -23,7 +25,8 @@ failing-with-requires c κs = search needs
 
 -- src/lib.rt:274:9
 returns : tie.Need-returns
-returns c = ?
+unfolding recovered
+returns c = simp (sym (c .before .before .before .nothing-lost .ensures) ∙ c .before .before .if1 .taken, c .failing-with .ensures, c .before .without-held .ensures)
 
 -- src/lib.rt:278:25
 recovered-row-requires : tie.Need-recovered-row-requires
@@ -35,7 +38,8 @@ recovering-to-requires c κs = search needs
 
 -- src/lib.rt:266:1
 returns-2 : tie.Need-returns-2
-returns-2 c = ?
+unfolding recovered
+returns-2 c = simp (sym (c .before .before .before .before .nothing-lost .ensures) ∙ c .before .before .before .if1 .left, c .recovering-to .ensures, c .before .recovered-row .ensures)
 
 pub recover-spec : {M : Type 1} → statement M
 recover-spec =

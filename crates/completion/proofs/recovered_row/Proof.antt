@@ -1,3 +1,6 @@
+use Rattle.zones.specs.Zone.{conditionOf}
+use Rattle.completion.specs.Completions.{recoveredRow}
+use Rattle.completion.proofs.Laws.{fixed-healthy}
 use borrow.Author.Needs.{needs}
 use Rattle.completion.proofs.recovered_row.Statement.{statement}
 use Rattle.completion.proofs.recovered_row.Tie as tie
@@ -24,7 +27,7 @@ rule-of-requires c κs = search needs
 
 -- src/lib.rt:227:9
 ruled-size-requires : tie.Need-ruled-size-requires
-ruled-size-requires c κs = ?
+ruled-size-requires c κs = (c .before .before .before .pre, simp (c .rule-of .ensures, c .before .recovery-grid .ensures, c .before .before .condition-of .ensures) (fixed-healthy (c .before .before .before .args .policy) (conditionOf (c .before .before .before .args .z))))
 
 -- src/lib.rt:228:9
 ruled-access-requires : tie.Need-ruled-access-requires
@@ -36,7 +39,8 @@ recovered-to-requires c κs = search needs
 
 -- src/lib.rt:218:1
 returns : tie.Need-returns
-returns c = ?
+unfolding recoveredRow
+returns c = simp (c .recovered-to .ensures, c .before .ruled-access .ensures, c .before .before .ruled-size .ensures, c .before .before .before .rule-of .ensures, c .before .before .before .before .recovery-grid .ensures, c .before .before .before .before .before .condition-of .ensures)
 
 pub recovered-row-spec : {M : Type 1} → statement M
 recovered-row-spec =

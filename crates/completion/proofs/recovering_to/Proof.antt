@@ -21,7 +21,7 @@ failing-with-requires c κs = search needs
 
 -- src/lib.rt:256:1
 returns : tie.Need-returns
-returns c = ?
+returns c = simp (c .failing-with .ensures, c .before .marked-by .ensures, c .before .before .without-held .ensures)
 
 pub recovering-to-spec : {M : Type 1} → statement M
 recovering-to-spec =

@@ -1,3 +1,4 @@
+use Rattle.completion.proofs.Laws.{sizing}
 use borrow.Author.Needs.{needs}
 use Rattle.completion.proofs.ruled_size.Statement.{statement}
 use Rattle.completion.proofs.ruled_size.Tie as tie
@@ -11,7 +12,7 @@ enum-told c = search needs
 
 -- src/lib.rt:192:28
 fixed-size-requires : tie.Need-fixed-size-requires
-fixed-size-requires c κs = ?
+fixed-size-requires c κs = sizing (c .before .before .args .kind) (c .before .before .args .z) (c .before .before .pre .0) (c .before .before .pre .1 (c .enum-told .given .1))
 
 -- src/lib.rt:193:27
 enum-told-2 : tie.Need-enum-told-2
@@ -23,7 +24,7 @@ enum-told-3 c = search needs
 
 -- src/lib.rt:187:1
 returns : tie.Need-returns
-returns c = ?
+returns c = simp (c .before .enum-told .given .1, c .fixed-size .ensures)
 
 -- src/lib.rt:187:1
 returns-2 : tie.Need-returns-2

@@ -1,3 +1,4 @@
+use Rattle.completion.specs.Completions.{withinConventional}
 use borrow.Author.Needs.{needs}
 use Rattle.completion.proofs.within_conventional.Statement.{statement}
 use Rattle.completion.proofs.within_conventional.Tie as tie
@@ -28,7 +29,8 @@ add-result c = search needs
 
 -- src/lib.rt:128:1
 returns : tie.Need-returns
-returns c = ?
+unfolding withinConventional
+returns c = simp (c .before .before .before .before .before .before .is-conventional .ensures, c .before .before .bytes-of .ensures, c .before .bytes-of2 .ensures)
 
 pub within-conventional-spec : {M : Type 1} → statement M
 within-conventional-spec =
