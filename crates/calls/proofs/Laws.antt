@@ -209,6 +209,20 @@ module _ (v : Volume) (cnv seq : List ℕ) (k : FileKind) (i : ℕ) (r : Row) wh
   pub reached-sound : Reached v cnv seq k i r → Sound (v .block) k r
   reached-sound w = sound-row (v .block) k r (w .sound)
 
+-- in order: what the file is where a check refuses it, and past the counts and the lookup
+module _ (v : Volume) (cnv seq : List ℕ) (k : FileKind) (i : ℕ) where
+  pub file-counts : countsFit v (length cnv) (length seq) ≡ false → fileOf v cnv seq k i ≡ checked.Refused refusal.Impossible
+  unfolding fileOf
+  file-counts h = rw h
+
+  pub file-none : countsFit v (length cnv) (length seq) ≡ true → lookupOf v cnv seq k i ≡ lookup.Nothing → fileOf v cnv seq k i ≡ checked.Refused refusal.NoFile
+  unfolding fileOf
+  file-none h e = rw (h, e)
+
+  pub file-found : {x : Slot} → countsFit v (length cnv) (length seq) ≡ true → lookupOf v cnv seq k i ≡ lookup.Found x → fileOf v cnv seq k i ≡ soundSlot (v .block) k x
+  unfolding fileOf
+  file-found h e = rw (h, e)
+
 -- A CHAIN OF CHECKS: an answer that is a command passed each.
 
 pub passed : {t : Bool} (x : Refusal) {rest : Answer} {c : Command} → refuse t x rest ≡ Issue c → (t ≡ false) × (rest ≡ Issue c)

@@ -21,7 +21,7 @@ settle-requires c κs = search needs
 
 -- src/lib.rt:100:1
 returns : tie.Need-returns
-returns c = ?
+returns c = simp (c .settle .ensures, c .before .on-file .ensures, c .before .before .sound-slot .ensures .0)
 
 pub call-on-spec : {M : Type 1} → statement M
 call-on-spec = tie.close (tie.spec sound-slot-requires on-file-requires settle-requires returns)

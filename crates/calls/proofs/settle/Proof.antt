@@ -23,15 +23,15 @@ enum-told-2 c = search needs
 
 -- src/lib.rt:70:1
 returns : tie.Need-returns
-returns c = ?
+returns c = simp (c .before .before .answer .given .1, c .with-held .ensures)
 
 -- src/lib.rt:70:1
 returns-2 : tie.Need-returns-2
-returns-2 c = ?
+returns-2 c = simp (c .enum-told .given .1)
 
 -- src/lib.rt:70:1
 returns-3 : tie.Need-returns-3
-returns-3 c = ?
+returns-3 c = simp (c .enum-told2 .given .1)
 
 pub settle-spec : {M : Type 1} → statement M
 settle-spec =

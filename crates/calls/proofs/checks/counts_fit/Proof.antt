@@ -1,3 +1,6 @@
+use mathlib.Core.Path.{_≡_, _∙_, sym}
+use Rattle.calls.specs.Checks.{countsFit}
+use Rattle.calls.proofs.Laws.{counts-sector}
 use borrow.Author.Needs.{needs}
 use Rattle.calls.proofs.checks.counts_fit.Statement.{statement}
 use Rattle.calls.proofs.checks.counts_fit.Tie as tie
@@ -20,7 +23,8 @@ good-block-requires c κs = search needs
 
 -- src/checks.rt:28:1
 returns : tie.Need-returns
-returns c = ?
+unfolding countsFit
+returns c = let a = c .before .before .before .args in (cc, λ t. counts-sector (a .v) (a .cnv) (a .seq) (cc))
 
 pub counts-fit-spec : {M : Type 1} → statement M
 counts-fit-spec =

@@ -11,7 +11,7 @@ rows-lent-requires c κs = search needs
 
 -- src/checks.rt:21:1
 returns : tie.Need-returns
-returns c = ?
+returns c = cc
 
 pub files-fit-spec : {M : Type 1} → statement M
 files-fit-spec = tie.close (tie.spec rows-lent-requires returns)

@@ -26,7 +26,7 @@ is-write-requires c κs = search needs
 
 -- src/checks.rt:147:1
 returns : tie.Need-returns
-returns c = ?
+returns c = cc
 
 pub is-allowed-spec : {M : Type 1} → statement M
 is-allowed-spec =

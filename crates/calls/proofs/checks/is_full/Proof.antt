@@ -16,7 +16,7 @@ is-none-requires c κs = search needs
 
 -- src/checks.rt:154:1
 returns : tie.Need-returns
-returns c = ?
+returns c = cc
 
 pub is-full-spec : {M : Type 1} → statement M
 is-full-spec = tie.close (tie.spec is-conventional-requires is-none-requires returns)

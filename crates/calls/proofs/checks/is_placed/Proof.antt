@@ -20,7 +20,7 @@ ends-by-requires c κs = search needs
 
 -- src/checks.rt:131:1
 returns : tie.Need-returns
-returns c = ?
+returns c = cc
 
 pub is-placed-spec : {M : Type 1} → statement M
 is-placed-spec =

@@ -11,7 +11,7 @@ on-block-requires c κs = search needs
 
 -- src/checks.rt:140:1
 returns : tie.Need-returns
-returns c = ?
+returns c = cc
 
 pub is-sized-spec : {M : Type 1} → statement M
 is-sized-spec = tie.close (tie.spec on-block-requires returns)

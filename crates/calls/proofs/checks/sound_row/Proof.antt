@@ -1,3 +1,4 @@
+use Rattle.calls.specs.Checks.{soundRow}
 use borrow.Author.Needs.{needs}
 use Rattle.calls.proofs.checks.sound_row.Statement.{statement}
 use Rattle.calls.proofs.checks.sound_row.Tie as tie
@@ -26,7 +27,8 @@ is-full-requires c κs = search needs
 
 -- src/checks.rt:161:1
 returns : tie.Need-returns
-returns c = ?
+unfolding soundRow
+returns c = cc
 
 pub sound-row-spec : {M : Type 1} → statement M
 sound-row-spec =

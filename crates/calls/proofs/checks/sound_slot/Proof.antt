@@ -1,3 +1,5 @@
+use mathlib.Core.Path.{_∙_, sym}
+use Rattle.calls.proofs.Laws.{sound-row}
 use borrow.Author.Needs.{needs}
 use Rattle.calls.proofs.checks.sound_slot.Statement.{statement}
 use Rattle.calls.proofs.checks.sound_slot.Tie as tie
@@ -15,7 +17,7 @@ enum-told c = search needs
 
 -- src/checks.rt:180:9
 returns : tie.Need-returns
-returns c = ?
+returns c = (simp (c .enum-told .given .1), tt)
 
 -- src/checks.rt:182:8
 sound-row-requires : tie.Need-sound-row-requires
@@ -23,11 +25,11 @@ sound-row-requires c κs = search needs
 
 -- src/checks.rt:174:1
 returns-2 : tie.Need-returns-2
-returns-2 c = ?
+returns-2 c = (simp (c .before .before .before .slot .given .1, sym (c .before .sound-row .ensures) ∙ c .if1 .taken), sound-row _ _ _ (sym (c .before .sound-row .ensures) ∙ c .if1 .taken) .ends)
 
 -- src/checks.rt:174:1
 returns-3 : tie.Need-returns-3
-returns-3 c = ?
+returns-3 c = (simp (c .before .before .before .slot .given .1, sym (c .before .sound-row .ensures) ∙ c .if1 .left), tt)
 
 pub sound-slot-spec : {M : Type 1} → statement M
 sound-slot-spec =

@@ -11,7 +11,7 @@ on-block-requires c κs = search needs
 
 -- src/checks.rt:113:1
 returns : tie.Need-returns
-returns c = ?
+returns c = cc
 
 pub whole-blocks-spec : {M : Type 1} → statement M
 whole-blocks-spec = tie.close (tie.spec on-block-requires returns)

@@ -42,19 +42,19 @@ flush-row-requires c κs = search needs
 
 -- src/rows.rt:178:1
 returns : tie.Need-returns
-returns c = ?
+returns c = simp (c .before .before .x .given .1, c .read-row .ensures)
 
 -- src/rows.rt:178:1
 returns-2 : tie.Need-returns-2
-returns-2 c = ?
+returns-2 c = simp (c .before .before .x2 .given .1, c .write-row .ensures)
 
 -- src/rows.rt:178:1
 returns-3 : tie.Need-returns-3
-returns-3 c = ?
+returns-3 c = simp (c .before .before .x3 .given .1, c .truncate-row .ensures)
 
 -- src/rows.rt:178:1
 returns-4 : tie.Need-returns-4
-returns-4 c = ?
+returns-4 c = simp (c .before .enum-told .given .1, c .flush-row .ensures)
 
 pub answer-of-spec : {M : Type 1} → statement M
 answer-of-spec =

@@ -1,3 +1,5 @@
+use mathlib.Core.Path.{_∙_, sym}
+use Rattle.calls.specs.Calls.{flushRow, refuse}
 use borrow.Author.Needs.{needs}
 use Rattle.calls.proofs.rows.flush_row.Statement.{statement}
 use Rattle.calls.proofs.rows.flush_row.Tie as tie
@@ -8,7 +10,8 @@ use Rattle.calls.proofs.rows.is_unwritable.Reads as is-unwritable-reads
 
 -- src/rows.rt:168:9
 returns : tie.Need-returns
-returns c = ?
+unfolding flushRow refuse
+returns c = simp (c .if1 .taken)
 
 -- src/rows.rt:171:8
 is-unwritable-requires : tie.Need-is-unwritable-requires
@@ -16,7 +19,8 @@ is-unwritable-requires c κs = search needs
 
 -- src/rows.rt:172:9
 returns-2 : tie.Need-returns-2
-returns-2 c = ?
+unfolding flushRow refuse
+returns-2 c = simp (c .before .before .if1 .left, sym (c .before .is-unwritable .ensures) ∙ c .if2 .taken)
 
 -- src/rows.rt:174:19
 file-command-requires : tie.Need-file-command-requires
@@ -24,7 +28,8 @@ file-command-requires c κs = search needs
 
 -- src/rows.rt:163:1
 returns-3 : tie.Need-returns-3
-returns-3 c = ?
+unfolding flushRow refuse
+returns-3 c = simp (c .before .before .before .if1 .left, sym (c .before .before .is-unwritable .ensures) ∙ c .before .if2 .left, c .file-command .ensures)
 
 pub flush-row-spec : {M : Type 1} → statement M
 flush-row-spec =

@@ -18,7 +18,7 @@ returns c = search needs
 
 -- src/rows.rt:30:1
 returns-2 : tie.Need-returns-2
-returns-2 c = ?
+returns-2 c = simp (c .enum-told2 .given .1)
 
 pub is-bad-target-spec : {M : Type 1} → statement M
 is-bad-target-spec = tie.close (tie.spec enum-told enum-told-2 returns returns-2)

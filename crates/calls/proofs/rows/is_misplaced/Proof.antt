@@ -27,7 +27,7 @@ returns c = search needs
 
 -- src/rows.rt:51:1
 returns-2 : tie.Need-returns-2
-returns-2 c = ?
+returns-2 c = simp (c .before .before .enum-told2 .given .1, c .before .on-block .ensures, c .on-block2 .ensures)
 
 pub is-misplaced-spec : {M : Type 1} → statement M
 is-misplaced-spec =

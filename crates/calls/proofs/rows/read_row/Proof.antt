@@ -1,3 +1,6 @@
+use native.Mathlib.Omega.{arith}
+use mathlib.Core.Path.{_∙_, sym}
+use Rattle.calls.specs.Calls.{readRow, refuse}
 use borrow.Author.Needs.{needs}
 use Rattle.calls.proofs.rows.read_row.Statement.{statement}
 use Rattle.calls.proofs.rows.read_row.Tie as tie
@@ -14,7 +17,8 @@ is-unreadable-requires c κs = search needs
 
 -- src/rows.rt:112:9
 returns : tie.Need-returns
-returns c = ?
+unfolding readRow refuse
+returns c = simp (sym (c .before .is-unreadable .ensures) ∙ c .if1 .taken)
 
 -- src/rows.rt:114:8
 is-beyond-requires : tie.Need-is-beyond-requires
@@ -22,7 +26,8 @@ is-beyond-requires c κs = search needs
 
 -- src/rows.rt:115:9
 returns-2 : tie.Need-returns-2
-returns-2 c = ?
+unfolding readRow refuse
+returns-2 c = simp (sym (c .before .before .before .is-unreadable .ensures) ∙ c .before .before .if1 .left, sym (c .before .is-beyond .ensures .0) ∙ c .if2 .taken)
 
 -- src/rows.rt:117:9
 read-count-requires : tie.Need-read-count-requires
@@ -30,11 +35,12 @@ read-count-requires c κs = search needs
 
 -- src/rows.rt:118:5
 transferred-requires : tie.Need-transferred-requires
-transferred-requires c κs = ?
+transferred-requires c κs = omega (arith, c .before .before .is-beyond .ensures .1 (c .before .if2 .left))
 
 -- src/rows.rt:106:1
 returns-3 : tie.Need-returns-3
-returns-3 c = ?
+unfolding readRow refuse
+returns-3 c = simp (sym (c .before .before .before .before .before .is-unreadable .ensures) ∙ c .before .before .before .before .if1 .left, sym (c .before .before .before .is-beyond .ensures .0) ∙ c .before .before .if2 .left, c .transferred .ensures, c .before .read-count .ensures)
 
 pub read-row-spec : {M : Type 1} → statement M
 read-row-spec =

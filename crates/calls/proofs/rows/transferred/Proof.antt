@@ -1,3 +1,5 @@
+use Rattle.calls.specs.Calls.{atOnce}
+use borrow.Author.Tests.{eq-eqb, ne-eqb}
 use borrow.Author.Needs.{needs}
 use Rattle.calls.proofs.rows.transferred.Statement.{statement}
 use Rattle.calls.proofs.rows.transferred.Tie as tie
@@ -11,11 +13,13 @@ command-of-requires c κs = search needs
 
 -- src/rows.rt:95:1
 returns : tie.Need-returns
-returns c = ?
+unfolding atOnce
+returns c = simp (eq-eqb _ _ (c .if1 .taken))
 
 -- src/rows.rt:95:1
 returns-2 : tie.Need-returns-2
-returns-2 c = ?
+unfolding atOnce
+returns-2 c = simp (ne-eqb _ _ (c .before .if1 .left), c .command-of .ensures)
 
 pub transferred-spec : {M : Type 1} → statement M
 transferred-spec = tie.close (tie.spec command-of-requires returns returns-2)

@@ -1,3 +1,5 @@
+use borrow.Author.Tests.{eq-eqb, ne-eqb}
+use Rattle.calls.specs.Calls.{truncateRow, refuse, atOnce}
 use borrow.Author.Needs.{needs}
 use Rattle.calls.proofs.rows.truncate_row.Statement.{statement}
 use Rattle.calls.proofs.rows.truncate_row.Tie as tie
@@ -9,7 +11,8 @@ use Rattle.calls.proofs.rows.is_unwritable.Reads as is-unwritable-reads
 
 -- src/rows.rt:147:9
 returns : tie.Need-returns
-returns c = ?
+unfolding truncateRow refuse atOnce
+returns c = simp (c .if1 .taken)
 
 -- src/rows.rt:150:8
 is-unwritable-requires : tie.Need-is-unwritable-requires
@@ -21,11 +24,13 @@ is-bad-target-requires c κs = search needs
 
 -- src/rows.rt:151:9
 returns-2 : tie.Need-returns-2
-returns-2 c = ?
+unfolding truncateRow refuse atOnce
+returns-2 c = simp (c .before .before .before .if1 .left, ← c .before .before .is-unwritable .ensures, ← c .before .is-bad-target .ensures, c .if2 .taken)
 
 -- src/rows.rt:154:9
 returns-3 : tie.Need-returns-3
-returns-3 c = ?
+unfolding truncateRow refuse atOnce
+returns-3 c = simp (c .before .before .before .before .before .if1 .left, ← c .before .before .before .before .is-unwritable .ensures, ← c .before .before .before .is-bad-target .ensures, c .before .before .if2 .left, eq-eqb _ _ (c .if3 .taken))
 
 -- src/rows.rt:157:23
 file-command-requires : tie.Need-file-command-requires
@@ -37,11 +42,13 @@ file-command-requires-2 c κs = search needs
 
 -- src/rows.rt:142:1
 returns-4 : tie.Need-returns-4
-returns-4 c = ?
+unfolding truncateRow refuse atOnce
+returns-4 c = simp (c .before .before .before .before .before .before .before .if1 .left, ← c .before .before .before .before .before .before .is-unwritable .ensures, ← c .before .before .before .before .before .is-bad-target .ensures, c .before .before .before .before .if2 .left, ne-eqb _ _ (c .before .before .if3 .left), eq-eqb _ _ (c .before .if4 .taken), c .file-command .ensures)
 
 -- src/rows.rt:142:1
 returns-5 : tie.Need-returns-5
-returns-5 c = ?
+unfolding truncateRow refuse atOnce
+returns-5 c = simp (c .before .before .before .before .before .before .before .if1 .left, ← c .before .before .before .before .before .before .is-unwritable .ensures, ← c .before .before .before .before .before .is-bad-target .ensures, c .before .before .before .before .if2 .left, ne-eqb _ _ (c .before .before .if3 .left), ne-eqb _ _ (c .before .if4 .left), c .file-command2 .ensures)
 
 pub truncate-row-spec : {M : Type 1} → statement M
 truncate-row-spec =
