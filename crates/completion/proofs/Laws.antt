@@ -26,6 +26,7 @@ use Rattle.types.specs.declared.Outstanding.{Outstanding}
 use Rattle.types.specs.declared.Outstanding.the-variants.{Idle, Busy}
 use Rattle.types.specs.Blocks.{sectorBytes, bytesOf, blockSectors}
 use Rattle.types.specs.Codes.{conditionCode}
+use Rattle.types.specs.Mounts.{cleared}
 use Rattle.types.proofs.Tests.{both, and-left, and-right}
 use Rattle.table.specs.Rows.{rowsLent}
 use Rattle.calls.specs.declared.Checked.{Checked}
@@ -44,8 +45,8 @@ use Rattle.completion.specs.declared.Store.the-variants as store
 use Rattle.completion.specs.declared.Digest.{Digest}
 use Rattle.completion.specs.Grid.{recoveryGrid, ruleOf}
 use Rattle.completion.specs.Held.{callFor, reissue, issuable, heldOn, pendingBy, pendingOf, Ready, PendingTells}
-use Rattle.completion.specs.Completions.{Completion, matchesSequential, withinConventional, matches, recordFits, refusing, digested, digestOf}
-use Rattle.completion.specs.Told.{Fitting, Sizing}
+use Rattle.completion.specs.Completions.{Completion, matchesSequential, withinConventional, matches, recordFits, refusing, succeeded, nothingLost, failing, recovering, recoveredRow, recovered, digested, digestPending, digestOf}
+use Rattle.completion.specs.Told.{StoreFits, Fitting, Sizing, SuccessSafe, FailureSafe}
 use Rattle.completion.proofs.Issuable.{issuable-call}
 
 -- 8, 10
@@ -175,3 +176,34 @@ fixed-healthy ZoneOffline condition.ReadOnly e = cc
 fixed-healthy ZoneOffline condition.Offline e = cc
 fixed-healthy Repair condition.ReadOnly e = cc
 fixed-healthy Repair condition.Offline e = cc
+
+-- A DIGEST is safe to make and to store
+
+either : (P : Digest → Type 0) (t : Bool) (d e : Digest) → P d → P e → P (cond t d e)
+either P true d e x y = x
+either P false d e x y = y
+
+module _ (m : Mount) (cnv seq : List ℕ) where
+  pub success-safe : (p : Pending) → PendingTells m cnv seq p → SuccessSafe p
+  success-safe (On h r) w =
+      let s = reached-sound (m .volume) cnv seq (h .kind) (h .number) r (w .reached) in
+      λ e. omega (arith, s .ends, s .within, write-within m (h .kind) r (h .command) e (w .issued))
+  success-safe (Refused x) w = tt
+
+  pub failure-safe : (p : Pending) → PendingTells m cnv seq p → FailureSafe m p
+  failure-safe (On h r) w =
+      (counts-sector (m .volume) (length cnv) (length seq) (w .reached .counts), reached-sound (m .volume) cnv seq (h .kind) (h .number) r (w .reached) .ends)
+  failure-safe (Refused x) w = tt
+
+  -- a row that is stored is the held command's, which is lent
+  pub digest-fits : (p : Pending) (x : Completion) → PendingTells m cnv seq p → StoreFits cnv seq (digestPending m p x .store)
+  unfolding succeeded recovered
+  digest-fits (Refused y) x w = tt
+  digest-fits (On h r) Completion.good w = reached-lent (m .volume) cnv seq (h .kind) (h .number) r (w .reached)
+  digest-fits (On h r) (Completion.failed z) w =
+      let P : Digest → Type 0 = λ d. StoreFits cnv seq (d .store) in
+      either P (recordFits (m .volume .block) (h .kind) r z) (recovered m h r z) (refusing m refusal.BadRecord)
+      (either P (nothingLost (h .kind) (h .command .kind) z (r .size)) (failing (cleared m) r store.Nothing) (recovering m h (recoveredRow (m .volume .policy) (h .kind) z r)) tt
+      (reached-lent (m .volume) cnv seq (h .kind) (h .number) r (w .reached)))
+      tt
+  digest-fits (On h r) Completion.malformed w = tt

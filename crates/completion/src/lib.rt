@@ -7,14 +7,15 @@ ghost use mathlib.Core.Bool.{true};
 ghost use Prim.Native.Nat.{_+_, _/_, _<_, _≤_, _^_};
 ghost use Rattle.types.specs.declared.FileKind.the-variants as files;
 ghost use Rattle.types.specs.declared.CommandKind.the-variants as commands;
-ghost use Rattle.completion.specs.Completions.{stored, refusing, sizeAfter, countOf, succeeded, matchesSequential, withinConventional, recordFits, fixedSize, unharmed, nothingLost, ruledSize, readAtMost, ruledAccess, recoveredRow, markedBy, failing, recovering, recovered};
-ghost use Rattle.completion.specs.Told.{StoreFits, Fitting, Sizing};
+ghost use Rattle.completion.specs.Completions.{stored, refusing, sizeAfter, countOf, succeeded, matchesSequential, withinConventional, recordFits, fixedSize, unharmed, nothingLost, ruledSize, readAtMost, ruledAccess, recoveredRow, markedBy, failing, recovering, recovered, digested, Completion, completionOf, digestPending, digestOf};
+ghost use Rattle.completion.specs.Told.{StoreFits, Fitting, Sizing, SuccessSafe, FailureSafe};
 ghost use Rattle.completion.specs.declared.grid.SizeRule.the-variants as rules;
 ghost use Rattle.types.specs.Blocks.{sectorBytes};
 ghost use Rattle.zones.specs.Zone.{healthy};
 ghost use Rattle.zones.specs.Told.{Sound};
 use grid::AccessRule;
 use grid::SizeRule;
+use held::Pending;
 use types::Access;
 use types::Answer;
 use types::CommandKind;
@@ -275,4 +276,80 @@ fn recover(m: Mount, h: Held, row: Row, z: Zone) -> Digest
     let volume = m.volume;
     let policy = volume.policy;
     recovering_to(m, h, recovered_row(policy, kind, z, row))
+}
+
+// Check 9, and then as the record says.
+fn digest_record(m: Mount, h: Held, row: Row, z: Zone) -> Digest
+    requires { ⌜ (sectorBytes ≤ m .volume .block) × (row .start + row .capacity / sectorBytes ≤ 2 ^ 40) ⌝ }
+    ensures { λ r. ⌜ r ≡ digested m h row (Completion.failed z) ⌝ }
+{
+    let volume = m.volume;
+    let kind = h.kind;
+    if record_fits(volume.block, kind, row, z) {
+        recover(m, h, row, z)
+    } else {
+        refuse(m, Refusal::BadRecord)
+    }
+}
+
+fn digest_success(m: Mount, p: Pending) -> Digest
+    requires { ⌜ SuccessSafe p ⌝ }
+    ensures { λ r. ⌜ r ≡ digestPending m p Completion.good ⌝ }
+{
+    match p {
+        Pending::On(h, row) => succeed(m, h, row),
+        Pending::Refused(x) => refuse(m, x),
+    }
+}
+
+// Bytes of another length are no record: 9 too.
+fn digest_failure(m: Mount, p: Pending, bytes: &[u8], given: bool) -> Digest
+    requires { ⌜ FailureSafe m p ⌝ }
+    ensures { λ r. ⌜ r ≡ digestPending m p (completionOf given (now (bytes .entry))) ⌝ }
+{
+    match p {
+        Pending::On(h, row) => {
+            if bytes.len() == zones::ZONE_BYTES {
+                digest_record(m, h, row, zones::zone_at(bytes, 0, given))
+            } else {
+                refuse(m, Refusal::BadRecord)
+            }
+        }
+        Pending::Refused(x) => refuse(m, x),
+    }
+}
+
+// The outstanding command was done well. One row is read, and at most one is written.
+pub fn complete(m: Mount, cnv: &mut [u64], seq: &mut [u64]) -> Outcome
+    ensures { λ r. ⌜ r ≡ digestOf m (now (cnv .entry)) (now (seq .entry)) Completion.good .outcome ⌝ }
+    ensures { λ _. ⌜ now (cnv .exit) ≡ stored files.Conventional (digestOf m (now (cnv .entry)) (now (seq .entry)) Completion.good .store) (now (cnv .entry)) ⌝ }
+    ensures { λ _. ⌜ now (seq .exit) ≡ stored files.Sequential (digestOf m (now (cnv .entry)) (now (seq .entry)) Completion.good .store) (now (seq .entry)) ⌝ }
+{
+    let p = held::find_pending(m, &cnv[..], &seq[..]);
+    let digest = digest_success(m, p);
+    let store = digest.store;
+    let outcome = digest.outcome;
+    put_store(cnv, seq, store);
+    outcome
+}
+
+// The outstanding command failed. The bytes are its zone's record, and `given` says that the record states a capacity.
+// One row is read, and at most one is written.
+pub fn fail(
+    m: Mount,
+    cnv: &mut [u64],
+    seq: &mut [u64],
+    bytes: &[u8],
+    given: bool,
+) -> Outcome
+    ensures { λ r. ⌜ r ≡ digestOf m (now (cnv .entry)) (now (seq .entry)) (completionOf given (now (bytes .entry))) .outcome ⌝ }
+    ensures { λ _. ⌜ now (cnv .exit) ≡ stored files.Conventional (digestOf m (now (cnv .entry)) (now (seq .entry)) (completionOf given (now (bytes .entry))) .store) (now (cnv .entry)) ⌝ }
+    ensures { λ _. ⌜ now (seq .exit) ≡ stored files.Sequential (digestOf m (now (cnv .entry)) (now (seq .entry)) (completionOf given (now (bytes .entry))) .store) (now (seq .entry)) ⌝ }
+{
+    let p = held::find_pending(m, &cnv[..], &seq[..]);
+    let digest = digest_failure(m, p, bytes, given);
+    let store = digest.store;
+    let outcome = digest.outcome;
+    put_store(cnv, seq, store);
+    outcome
 }
