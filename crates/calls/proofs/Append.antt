@@ -40,10 +40,11 @@ appendCommand r offset length = record { kind = Write; address = r .start * 512 
 module _ (m : Mount) (cnv seq : List ℕ) (i : ℕ) (r : Row) (offset length : ℕ) (p : Permitted m cnv seq i r offset length) where
   append-placed : misplaced Sequential (m .volume .block) (r .size) offset length ≡ false
   append-placed =
-      simp
-      (eq-eqb (offset % m .volume .block) 0 (ap (λ (n : ℕ). n % m .volume .block) (p .appends) ∙ reached-sound (m .volume) cnv seq Sequential i r (p .reached) .blocks),
-      eq-eqb (length % m .volume .block) 0 (p .whole),
-      eq-eqb offset (r .size) (p .appends))
+      simp (
+        eq-eqb (offset % m .volume .block) 0 (ap (λ (n : ℕ). n % m .volume .block) (p .appends) ∙ reached-sound (m .volume) cnv seq Sequential i r (p .reached) .blocks),
+        eq-eqb (length % m .volume .block) 0 (p .whole),
+        eq-eqb offset (r .size) (p .appends),
+      )
 
   append-row : writeRow m Sequential r offset length ≡ Issue (appendCommand r offset length)
   unfolding writeRow

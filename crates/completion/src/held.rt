@@ -62,11 +62,7 @@ fn offset_from(start: u64, address: u64) -> u64
     ensures { λ r. ⌜ r ≡ address - bytesOf start ⌝ }
 {
     let first = start * 512;
-    if first <= address {
-        address - first
-    } else {
-        0
-    }
+    if first <= address { address - first } else { 0 }
 }
 
 // Whether some call on this row would issue the command: the one that would have is made again.

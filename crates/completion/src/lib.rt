@@ -335,13 +335,7 @@ pub fn complete(m: Mount, cnv: &mut [u64], seq: &mut [u64]) -> Outcome
 
 // The outstanding command failed. The bytes are its zone's record, and `given` says that the record states a capacity.
 // One row is read, and at most one is written.
-pub fn fail(
-    m: Mount,
-    cnv: &mut [u64],
-    seq: &mut [u64],
-    bytes: &[u8],
-    given: bool,
-) -> Outcome
+pub fn fail(m: Mount, cnv: &mut [u64], seq: &mut [u64], bytes: &[u8], given: bool) -> Outcome
     ensures { λ r. ⌜ r ≡ digestOf m (now (cnv .entry)) (now (seq .entry)) (completionOf given (now (bytes .entry))) .outcome ⌝ }
     ensures { λ _. ⌜ now (cnv .exit) ≡ stored files.Conventional (digestOf m (now (cnv .entry)) (now (seq .entry)) (completionOf given (now (bytes .entry))) .store) (now (cnv .entry)) ⌝ }
     ensures { λ _. ⌜ now (seq .exit) ≡ stored files.Sequential (digestOf m (now (cnv .entry)) (now (seq .entry)) (completionOf given (now (bytes .entry))) .store) (now (seq .entry)) ⌝ }

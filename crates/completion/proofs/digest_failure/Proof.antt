@@ -4,47 +4,33 @@ use Rattle.completion.specs.Completions.{completionOf}
 use borrow.Author.Needs.{needs}
 use Rattle.completion.proofs.digest_failure.Statement.{statement}
 use Rattle.completion.proofs.digest_failure.Tie as tie
-use Rattle.completion.proofs.digest_failure.Reads as reads
-use Rattle.completion.proofs.digest_failure.Lts as lts
-use Rattle.completion.proofs.digest_record.Reads as digest-record-reads
-use Rattle.completion.proofs.refuse.Reads as refuse-reads
-use Rattle.zones.proofs.zone_at.Reads as zone-at-reads
 
--- src/lib.rt:311:21
 enum-known-p : tie.Need-enum-known-p
 enum-known-p c = search needs
 
--- src/lib.rt:313:42
 zone-at-requires : tie.Need-zone-at-requires
 zone-at-requires c κs = search needs
 
--- src/lib.rt:313:17
 digest-record-requires : tie.Need-digest-record-requires
 digest-record-requires c κs = simp (c .before .before .before .p .given .1) at (c .before .before .before .before .before .before .pre)
 
--- src/lib.rt:315:17
 refuse-requires : tie.Need-refuse-requires
 refuse-requires c κs = search needs
 
--- src/lib.rt:318:26
 enum-known-p-2 : tie.Need-enum-known-p-2
 enum-known-p-2 c = search needs
 
--- src/lib.rt:318:32
 refuse-requires-2 : tie.Need-refuse-requires-2
 refuse-requires-2 c κs = search needs
 
--- src/lib.rt:306:1
 returns : tie.Need-returns
 unfolding completionOf
 returns c = simp (c .before .before .before .before .p .given .1, eq-eqb (length (c .before .before .before .before .before .before .before .args .bytes .now)) 64 (c .before .before .if1 .taken), c .digest-record .ensures, c .before .zone-at .ensures)
 
--- src/lib.rt:306:1
 returns-2 : tie.Need-returns-2
 unfolding completionOf
 returns-2 c = simp (c .before .before .before .p .given .1, ne-eqb (length (c .before .before .before .before .before .before .args .bytes .now)) 64 (c .before .if1 .left), c .refuse .ensures)
 
--- src/lib.rt:306:1
 returns-3 : tie.Need-returns-3
 returns-3 c = simp (c .before .before .p2 .given .1, c .refuse2 .ensures)
 

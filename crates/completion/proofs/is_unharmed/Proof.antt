@@ -3,24 +3,16 @@ use Rattle.completion.proofs.Laws.{sizing}
 use borrow.Author.Needs.{needs}
 use Rattle.completion.proofs.is_unharmed.Statement.{statement}
 use Rattle.completion.proofs.is_unharmed.Tie as tie
-use Rattle.completion.proofs.is_unharmed.Reads as reads
-use Rattle.completion.proofs.is_unharmed.Lts as lts
-use Rattle.completion.proofs.fixed_size.Reads as fixed-size-reads
-use Rattle.zones.proofs.is_healthy.Reads as is-healthy-reads
 
--- src/lib.rt:167:8
 is-healthy-requires : tie.Need-is-healthy-requires
 is-healthy-requires c κs = search needs
 
--- src/lib.rt:168:17
 fixed-size-requires : tie.Need-fixed-size-requires
 fixed-size-requires c κs = sizing (c .before .before .args .kind) (c .before .before .args .z) (c .before .before .pre) (sym (c .before .is-healthy .ensures) ∙ c .if1 .taken)
 
--- src/lib.rt:163:1
 returns : tie.Need-returns
 returns c = simp (sym (c .before .before .is-healthy .ensures) ∙ c .before .if1 .taken, c .fixed-size .ensures)
 
--- src/lib.rt:163:1
 returns-2 : tie.Need-returns-2
 returns-2 c = simp (sym (c .before .is-healthy .ensures) ∙ c .if1 .left)
 

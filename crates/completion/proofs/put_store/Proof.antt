@@ -1,58 +1,43 @@
 use borrow.Author.Needs.{needs}
 use Rattle.completion.proofs.put_store.Statement.{statement}
 use Rattle.completion.proofs.put_store.Tie as tie
-use Rattle.completion.proofs.put_store.Reads as reads
-use Rattle.completion.proofs.put_store.Lts as lts
-use Rattle.table.proofs.put_row.Reads as put-row-reads
 
 enum-told : tie.Need-enum-told
 enum-told c = search needs
 
--- src/lib.rt:42:20
 enum-known-store : tie.Need-enum-known-store
 enum-known-store c = search needs
 
--- src/lib.rt:43:54
 enum-told-2 : tie.Need-enum-told-2
 enum-told-2 c = search needs
 
--- src/lib.rt:43:59
 cast-put-row : tie.Need-cast-put-row
 cast-put-row c = search needs
 
--- src/lib.rt:43:39
 put-row-requires : tie.Need-put-row-requires
 put-row-requires c κs = simp (c .before .before .before .before .store .given .1, c .before .enum-told2 .given .1) at (c .before .before .before .before .before .before .before .before .pre)
 
--- src/lib.rt:44:52
 enum-told-3 : tie.Need-enum-told-3
 enum-told-3 c = search needs
 
--- src/lib.rt:44:57
 cast-put-row-2 : tie.Need-cast-put-row-2
 cast-put-row-2 c = search needs
 
--- src/lib.rt:44:37
 put-row-requires-2 : tie.Need-put-row-requires-2
 put-row-requires-2 c κs = simp (c .before .before .before .before .store .given .1, c .before .enum-told3 .given .1) at (c .before .before .before .before .before .before .before .before .pre)
 
--- src/lib.rt:35:1
 returns : tie.Need-returns
 returns c = search needs
 
--- src/lib.rt:35:1
 same-length : tie.Need-same-length
 same-length c = search needs
 
--- src/lib.rt:35:1
 returns-2 : tie.Need-returns-2
 returns-2 c = (simp (c .before .before .before .before .before .before .before .store .given .1, c .before .before .before .before .enum-told2 .given .1, c .before .before .put-row .ensures), simp (c .before .before .before .before .before .before .before .store .given .1, c .before .before .before .before .enum-told2 .given .1))
 
--- src/lib.rt:35:1
 same-length-2 : tie.Need-same-length-2
 same-length-2 c = search needs
 
--- src/lib.rt:35:1
 returns-3 : tie.Need-returns-3
 returns-3 c = (simp (c .before .before .before .before .before .before .before .store .given .1, c .before .before .before .before .enum-told3 .given .1), simp (c .before .before .before .before .before .before .before .store .given .1, c .before .before .before .before .enum-told3 .given .1, c .before .before .put-row2 .ensures))
 

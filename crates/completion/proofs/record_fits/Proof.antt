@@ -5,48 +5,33 @@ use Rattle.completion.specs.Completions.{recordFits}
 use borrow.Author.Needs.{needs}
 use Rattle.completion.proofs.record_fits.Statement.{statement}
 use Rattle.completion.proofs.record_fits.Tie as tie
-use Rattle.completion.proofs.record_fits.Reads as reads
-use Rattle.completion.proofs.record_fits.Lts as lts
-use Rattle.completion.proofs.matches_sequential.Reads as matches-sequential-reads
-use Rattle.completion.proofs.within_conventional.Reads as within-conventional-reads
-use Rattle.zones.proofs.block_sectors.Reads as block-sectors-reads
-use Rattle.zones.proofs.good_record.Reads as good-record-reads
 
--- src/lib.rt:143:31
 block-sectors-requires : tie.Need-block-sectors-requires
 block-sectors-requires c κs = search needs
 
--- src/lib.rt:143:9
 good-record-requires : tie.Need-good-record-requires
 good-record-requires c κs = search needs
 
--- src/lib.rt:144:9
 returns : tie.Need-returns
 unfolding recordFits
 returns c = simp (simp (c .before .before .block-sectors .ensures) at (sym (c .before .good-record .ensures) ∙ not-true _ (c .if1 .taken)))
 
--- src/lib.rt:147:35
 enum-told : tie.Need-enum-told
 enum-told c = search needs
 
--- src/lib.rt:147:35
 within-conventional-requires : tie.Need-within-conventional-requires
 within-conventional-requires c κs = (record-sound _ (c .before .before .before .before .before .args .z) (sym (c .before .before .before .good-record .ensures) ∙ not-false _ (c .before .before .if1 .left)), c .before .before .before .before .before .pre .1)
 
--- src/lib.rt:148:33
 enum-told-2 : tie.Need-enum-told-2
 enum-told-2 c = search needs
 
--- src/lib.rt:148:33
 matches-sequential-requires : tie.Need-matches-sequential-requires
 matches-sequential-requires c κs = record-sound _ (c .before .before .before .before .before .args .z) (sym (c .before .before .before .good-record .ensures) ∙ not-false _ (c .before .before .if1 .left))
 
--- src/lib.rt:138:1
 returns-2 : tie.Need-returns-2
 unfolding recordFits
 returns-2 c = simp (simp (c .before .before .before .before .before .block-sectors .ensures) at (sym (c .before .before .before .before .good-record .ensures) ∙ not-false _ (c .before .before .before .if1 .left)), c .before .enum-told .given .1, c .within-conventional .ensures)
 
--- src/lib.rt:138:1
 returns-3 : tie.Need-returns-3
 unfolding recordFits
 returns-3 c = simp (simp (c .before .before .before .before .before .block-sectors .ensures) at (sym (c .before .before .before .before .good-record .ensures) ∙ not-false _ (c .before .before .before .if1 .left)), c .before .enum-told2 .given .1, c .matches-sequential .ensures)

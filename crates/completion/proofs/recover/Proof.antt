@@ -3,40 +3,26 @@ use Rattle.completion.specs.Completions.{recovered}
 use borrow.Author.Needs.{needs}
 use Rattle.completion.proofs.recover.Statement.{statement}
 use Rattle.completion.proofs.recover.Tie as tie
-use Rattle.completion.proofs.recover.Reads as reads
-use Rattle.completion.proofs.recover.Lts as lts
-use Rattle.completion.proofs.failing_with.Reads as failing-with-reads
-use Rattle.completion.proofs.nothing_lost.Reads as nothing-lost-reads
-use Rattle.completion.proofs.recovered_row.Reads as recovered-row-reads
-use Rattle.completion.proofs.recovering_to.Reads as recovering-to-reads
-use Rattle.types.proofs.without_held.Reads as without-held-reads
 
--- src/lib.rt:273:8
 nothing-lost-requires : tie.Need-nothing-lost-requires
 nothing-lost-requires c κs = search needs
 
--- src/lib.rt:274:29
 without-held-requires : tie.Need-without-held-requires
 without-held-requires c κs = search needs
 
--- src/lib.rt:274:9
 failing-with-requires : tie.Need-failing-with-requires
 failing-with-requires c κs = search needs
 
--- src/lib.rt:274:9
 returns : tie.Need-returns
 unfolding recovered
 returns c = simp (sym (c .before .before .before .nothing-lost .ensures) ∙ c .before .before .if1 .taken, c .failing-with .ensures, c .before .without-held .ensures)
 
--- src/lib.rt:278:25
 recovered-row-requires : tie.Need-recovered-row-requires
 recovered-row-requires c κs = search needs
 
--- src/lib.rt:278:5
 recovering-to-requires : tie.Need-recovering-to-requires
 recovering-to-requires c κs = search needs
 
--- src/lib.rt:266:1
 returns-2 : tie.Need-returns-2
 unfolding recovered
 returns-2 c = simp (sym (c .before .before .before .before .nothing-lost .ensures) ∙ c .before .before .before .if1 .left, c .recovering-to .ensures, c .before .recovered-row .ensures)

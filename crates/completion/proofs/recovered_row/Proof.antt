@@ -4,40 +4,25 @@ use Rattle.completion.proofs.Laws.{fixed-healthy}
 use borrow.Author.Needs.{needs}
 use Rattle.completion.proofs.recovered_row.Statement.{statement}
 use Rattle.completion.proofs.recovered_row.Tie as tie
-use Rattle.completion.proofs.recovered_row.Reads as reads
-use Rattle.completion.proofs.recovered_row.Lts as lts
-use Rattle.completion.proofs.grid.recovery_grid.Reads as recovery-grid-reads
-use Rattle.completion.proofs.grid.rule_of.Reads as rule-of-reads
-use Rattle.completion.proofs.ruled_access.Reads as ruled-access-reads
-use Rattle.completion.proofs.ruled_size.Reads as ruled-size-reads
-use Rattle.table.proofs.recovered_to.Reads as recovered-to-reads
-use Rattle.zones.proofs.condition_of.Reads as condition-of-reads
 
--- src/lib.rt:222:9
 condition-of-requires : tie.Need-condition-of-requires
 condition-of-requires c κs = search needs
 
--- src/lib.rt:223:30
 recovery-grid-requires : tie.Need-recovery-grid-requires
 recovery-grid-requires c κs = search needs
 
--- src/lib.rt:223:9
 rule-of-requires : tie.Need-rule-of-requires
 rule-of-requires c κs = search needs
 
--- src/lib.rt:227:9
 ruled-size-requires : tie.Need-ruled-size-requires
 ruled-size-requires c κs = (c .before .before .before .pre, simp (c .rule-of .ensures, c .before .recovery-grid .ensures, c .before .before .condition-of .ensures) (fixed-healthy (c .before .before .before .args .policy) (conditionOf (c .before .before .before .args .z))))
 
--- src/lib.rt:228:9
 ruled-access-requires : tie.Need-ruled-access-requires
 ruled-access-requires c κs = search needs
 
--- src/lib.rt:229:5
 recovered-to-requires : tie.Need-recovered-to-requires
 recovered-to-requires c κs = search needs
 
--- src/lib.rt:218:1
 returns : tie.Need-returns
 unfolding recoveredRow
 returns c = simp (c .recovered-to .ensures, c .before .ruled-access .ensures, c .before .before .ruled-size .ensures, c .before .before .before .rule-of .ensures, c .before .before .before .before .recovery-grid .ensures, c .before .before .before .before .before .condition-of .ensures)

@@ -2,35 +2,25 @@ use Rattle.completion.proofs.Laws.{sizing}
 use borrow.Author.Needs.{needs}
 use Rattle.completion.proofs.ruled_size.Statement.{statement}
 use Rattle.completion.proofs.ruled_size.Tie as tie
-use Rattle.completion.proofs.ruled_size.Reads as reads
-use Rattle.completion.proofs.ruled_size.Lts as lts
-use Rattle.completion.proofs.fixed_size.Reads as fixed-size-reads
 
--- src/lib.rt:192:28
 enum-told : tie.Need-enum-told
 enum-told c = search needs
 
--- src/lib.rt:192:28
 fixed-size-requires : tie.Need-fixed-size-requires
 fixed-size-requires c κs = sizing (c .before .before .args .kind) (c .before .before .args .z) (c .before .before .pre .0) (c .before .before .pre .1 (c .enum-told .given .1))
 
--- src/lib.rt:193:27
 enum-told-2 : tie.Need-enum-told-2
 enum-told-2 c = search needs
 
--- src/lib.rt:194:27
 enum-told-3 : tie.Need-enum-told-3
 enum-told-3 c = search needs
 
--- src/lib.rt:187:1
 returns : tie.Need-returns
 returns c = simp (c .before .enum-told .given .1, c .fixed-size .ensures)
 
--- src/lib.rt:187:1
 returns-2 : tie.Need-returns-2
 returns-2 c = search needs
 
--- src/lib.rt:187:1
 returns-3 : tie.Need-returns-3
 returns-3 c = search needs
 

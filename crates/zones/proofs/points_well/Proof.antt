@@ -15,10 +15,10 @@ rem-result c = search needs
 -- src/lib.rt:201:1
 returns : tie.Need-returns
 returns c = let z = c .before .before .before .before .before .before .before .args .z in rw (
-      le-leb (z .start) (z .pointer) (omega arith),
-      leb-same (z .pointer - z .start) (z .capacity) (z .pointer) (z .start + z .capacity) (λ h. omega arith) (λ h. omega arith),
-      eqb-same (z .pointer - z .start) (z .capacity) (z .pointer) (z .start + z .capacity) (λ h. omega arith) (λ h. omega arith),
-    )
+  le-leb (z .start) (z .pointer) (omega arith),
+  leb-same (z .pointer - z .start) (z .capacity) (z .pointer) (z .start + z .capacity) (λ h. omega arith) (λ h. omega arith),
+  eqb-same (z .pointer - z .start) (z .capacity) (z .pointer) (z .start + z .capacity) (λ h. omega arith) (λ h. omega arith),
+)
 
 -- src/lib.rt:201:1
 returns-2 : tie.Need-returns-2

@@ -2,15 +2,10 @@ use Rattle.completion.proofs.Laws.{pending-tells}
 use borrow.Author.Needs.{needs}
 use Rattle.completion.proofs.held.find_pending.Statement.{statement}
 use Rattle.completion.proofs.held.find_pending.Tie as tie
-use Rattle.completion.proofs.held.find_pending.Reads as reads
-use Rattle.completion.proofs.held.find_pending.Lts as lts
-use Rattle.completion.proofs.held.check_pending.Reads as check-pending-reads
 
--- src/held.rt:125:5
 check-pending-requires : tie.Need-check-pending-requires
 check-pending-requires c κs = search needs
 
--- src/held.rt:121:1
 returns : tie.Need-returns
 returns c = (c .check-pending .ensures, simp (c .check-pending .ensures) (pending-tells (c .before .before .before .args .m) (c .before .before .before .args .cnv .now) (c .before .before .before .args .seq .now)))
 

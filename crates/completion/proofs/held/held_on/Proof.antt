@@ -2,31 +2,22 @@ use mathlib.Core.Path.{_∙_, sym}
 use borrow.Author.Needs.{needs}
 use Rattle.completion.proofs.held.held_on.Statement.{statement}
 use Rattle.completion.proofs.held.held_on.Tie as tie
-use Rattle.completion.proofs.held.held_on.Reads as reads
-use Rattle.completion.proofs.held.held_on.Lts as lts
-use Rattle.completion.proofs.held.is_issuable.Reads as is-issuable-reads
 
--- src/held.rt:90:23
 enum-known-file : tie.Need-enum-known-file
 enum-known-file c = search needs
 
--- src/held.rt:91:16
 is-issuable-requires : tie.Need-is-issuable-requires
 is-issuable-requires c κs = (c .before .before .before .before .pre .0, simp (c .before .file .given .1) at (c .before .before .before .before .pre .1))
 
--- src/held.rt:97:49
 enum-told : tie.Need-enum-told
 enum-told c = search needs
 
--- src/held.rt:83:1
 returns : tie.Need-returns
 returns c = simp (c .before .before .before .file .given .1, sym (c .before .is-issuable .ensures) ∙ c .if1 .taken)
 
--- src/held.rt:83:1
 returns-2 : tie.Need-returns-2
 returns-2 c = simp (c .before .before .before .file .given .1, sym (c .before .is-issuable .ensures) ∙ c .if1 .left)
 
--- src/held.rt:83:1
 returns-3 : tie.Need-returns-3
 returns-3 c = simp (c .enum-told .given .1)
 
