@@ -1,6 +1,6 @@
 -- What the checks of a completion tell: a law out of each and a law into it. Whoever uses these opens none of the chains.
 -- Assumes nothing.
-use Prim.Native.Nat.{ℕ, _+_, _-_, _*_, _/_, _^_, _≤_, _<_}
+use Prim.Native.Nat.{ℕ, _+_, _-_, _≤_}
 use native.Mathlib.Omega.{arith}
 use mathlib.Core.Path.{_≡_, refl, subst}
 use mathlib.Core.Bool.{Bool, true, false, _&&_, cond}
@@ -15,6 +15,8 @@ use Rattle.types.specs.declared.FileKind.{FileKind}
 use Rattle.types.specs.declared.FileKind.the-variants.{Conventional, Sequential}
 use Rattle.types.specs.declared.Condition.{Condition}
 use Rattle.types.specs.declared.Condition.the-variants as condition
+use Rattle.types.specs.declared.Access.{Access}
+use Rattle.types.specs.declared.Access.the-variants as access
 use Rattle.types.specs.declared.ErrorPolicy.{ErrorPolicy}
 use Rattle.types.specs.declared.ErrorPolicy.the-variants.{RemountRo, ZoneRo, ZoneOffline, Repair}
 use Rattle.types.specs.declared.Command.{Command}
@@ -24,28 +26,27 @@ use Rattle.types.specs.declared.Answer.the-variants.{Issue}
 use Rattle.types.specs.declared.Refusal.the-variants as refusal
 use Rattle.types.specs.declared.Outstanding.{Outstanding}
 use Rattle.types.specs.declared.Outstanding.the-variants.{Idle, Busy}
-use Rattle.types.specs.Blocks.{sectorBytes, bytesOf, blockSectors}
-use Rattle.types.specs.Codes.{conditionCode}
-use Rattle.types.specs.Mounts.{cleared}
+use Rattle.types.specs.Blocks.{bytesOf, blockSectors}
+use Rattle.types.specs.Codes.{conditionCode, accessCode}
 use Rattle.types.proofs.Tests.{both, and-left, and-right}
-use Rattle.table.specs.Rows.{rowsLent}
 use Rattle.calls.specs.declared.Checked.{Checked}
 use Rattle.calls.specs.declared.Checked.the-variants as checked
 use Rattle.calls.specs.Calls.{writeRow, answerOf}
-use Rattle.calls.specs.Checks.{ofKind, fileOf}
+use Rattle.calls.specs.Checks.{fileOf}
 use Rattle.calls.specs.Told.{Reached}
 use Rattle.calls.proofs.Laws.{file-reached, reached-file, reached-lent, reached-sound, counts-sector, passed}
 use Rattle.zones.specs.declared.Zone.{Zone}
-use Rattle.zones.specs.Zone.{conventional, sequential, conditionOf, isHealthy, healthy, pointed, goodRecord}
+use Rattle.zones.specs.Zone.{conventional, sequential, conditionOf, isHealthy, healthy, goodRecord}
 use Rattle.zones.proofs.Laws.{record-sound}
 use Rattle.completion.specs.declared.held.Pending.{Pending}
 use Rattle.completion.specs.declared.held.Pending.the-variants.{On, Refused}
 use Rattle.completion.specs.declared.grid.SizeRule.the-variants.{Fixed}
-use Rattle.completion.specs.declared.Store.the-variants as store
+use Rattle.completion.specs.declared.grid.AccessRule.{AccessRule}
+use Rattle.completion.specs.declared.grid.AccessRule.the-variants as rule
 use Rattle.completion.specs.declared.Digest.{Digest}
 use Rattle.completion.specs.Grid.{recoveryGrid, ruleOf}
-use Rattle.completion.specs.Held.{callFor, reissue, issuable, heldOn, pendingBy, pendingOf, Ready, PendingTells}
-use Rattle.completion.specs.Completions.{Completion, matchesSequential, withinConventional, matches, recordFits, refusing, succeeded, nothingLost, failing, recovering, recoveredRow, recovered, digested, digestPending, digestOf}
+use Rattle.completion.specs.Held.{callFor, issuable, heldOn, pendingBy, pendingOf, Ready, PendingTells}
+use Rattle.completion.specs.Completions.{Completion, matchesSequential, withinConventional, recordFits, ruledAccess, refusing, succeeded, nothingLost, recovered, digested, digestPending, digestOf}
 use Rattle.completion.specs.Told.{StoreFits, Fitting, Sizing, SuccessSafe, FailureSafe}
 use Rattle.completion.proofs.Issuable.{issuable-call}
 
@@ -116,7 +117,7 @@ module _ (block : ℕ) (r : Row) (z : Zone) where
   pub sequential-told : recordFits block Sequential r z ≡ true → FitsSequential block r z
   unfolding recordFits matchesSequential
   sequential-told h =
-      let good : goodRecord (blockSectors block) z ≡ true = search (and-left, and-right) depth 9 in
+      let good : goodRecord (blockSectors block) z ≡ true = and-left _ (matchesSequential r z) h in
       let type : sequential z ≡ true = search (and-left, and-right) depth 9 in
       let start : eqb (z .start) (r .start) ≡ true = search (and-left, and-right) depth 9 in
       let capacity : eqb (bytesOf (z .capacity)) (r .capacity) ≡ true = search (and-left, and-right) depth 9 in
@@ -140,7 +141,7 @@ module _ (block : ℕ) (r : Row) (z : Zone) where
   pub conventional-told : recordFits block Conventional r z ≡ true → FitsConventional block r z
   unfolding recordFits withinConventional
   conventional-told h =
-      let good : goodRecord (blockSectors block) z ≡ true = search (and-left, and-right) depth 9 in
+      let good : goodRecord (blockSectors block) z ≡ true = and-left _ (withinConventional r z) h in
       let type : conventional z ≡ true = search (and-left, and-right) depth 9 in
       let start : leb (r .start) (z .start) ≡ true = search (and-left, and-right) depth 9 in
       let end : leb (bytesOf (z .start + z .length)) (bytesOf (r .start) + r .capacity) ≡ true = search (and-left, and-right) depth 9 in
@@ -177,6 +178,14 @@ fixed-healthy ZoneOffline condition.Offline e = cc
 fixed-healthy Repair condition.ReadOnly e = cc
 fixed-healthy Repair condition.Offline e = cc
 
+-- "Access never rises."
+pub access-falls : (u : AccessRule) (a : Access) → accessCode (ruledAccess u a) ≤ accessCode a
+access-falls rule.Unchanged a = omega arith
+access-falls rule.Read access.Nothing = omega arith
+access-falls rule.Read access.Read = omega arith
+access-falls rule.Read access.Write = omega arith
+access-falls rule.Nothing a = omega arith
+
 -- A DIGEST is safe to make and to store
 
 either : (P : Digest → Type 0) (t : Bool) (d e : Digest) → P d → P e → P (cond t d e)
@@ -202,8 +211,7 @@ module _ (m : Mount) (cnv seq : List ℕ) where
   digest-fits (On h r) Completion.good w = reached-lent (m .volume) cnv seq (h .kind) (h .number) r (w .reached)
   digest-fits (On h r) (Completion.failed z) w =
       let P : Digest → Type 0 = λ d. StoreFits cnv seq (d .store) in
-      either P (recordFits (m .volume .block) (h .kind) r z) (recovered m h r z) (refusing m refusal.BadRecord)
-      (either P (nothingLost (h .kind) (h .command .kind) z (r .size)) (failing (cleared m) r store.Nothing) (recovering m h (recoveredRow (m .volume .policy) (h .kind) z r)) tt
-      (reached-lent (m .volume) cnv seq (h .kind) (h .number) r (w .reached)))
+      either P (recordFits (m .volume .block) (h .kind) r z) _ _
+      (either P (nothingLost (h .kind) (h .command .kind) z (r .size)) _ _ tt (reached-lent (m .volume) cnv seq (h .kind) (h .number) r (w .reached)))
       tt
   digest-fits (On h r) Completion.malformed w = tt

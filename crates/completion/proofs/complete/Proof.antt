@@ -8,10 +8,16 @@ find-pending-requires : tie.Need-find-pending-requires
 find-pending-requires c κs = search needs
 
 digest-success-requires : tie.Need-digest-success-requires
-digest-success-requires c κs = success-safe (c .before .before .before .before .before .args .m) (c .before .before .before .before .before .args .cnv .now) (c .before .before .before .before .before .args .seq .now) (c .find-pending .result) (c .find-pending .ensures .1)
+digest-success-requires c κs =
+    let a = c .before .before .before .before .before .args in
+    success-safe (a .m) (a .cnv .now) (a .seq .now) (c .find-pending .result) (c .find-pending .ensures .1)
 
 put-store-requires : tie.Need-put-store-requires
-put-store-requires c κs = simp (c .before .before .before .digest-success .ensures) (digest-fits (c .before .before .before .before .before .before .before .before .before .args .m) (c .before .before .before .before .before .before .before .before .before .args .cnv .now) (c .before .before .before .before .before .before .before .before .before .args .seq .now) (c .before .before .before .before .find-pending .result) Completion.good (c .before .before .before .before .find-pending .ensures .1))
+put-store-requires c κs =
+    let a = c .before .before .before .before .before .before .before .before .before .args in
+    let pending = c .before .before .before .before .find-pending in
+    simp (c .before .before .before .digest-success .ensures)
+    (digest-fits (a .m) (a .cnv .now) (a .seq .now) (pending .result) Completion.good (pending .ensures .1))
 
 same-length : tie.Need-same-length
 same-length c = search needs
@@ -21,7 +27,11 @@ same-length-2 c = search needs
 
 returns : tie.Need-returns
 unfolding digestOf
-returns c = (simp (c .before .before .before .before .before .before .before .before .digest-success .ensures, c .before .before .before .before .before .before .before .before .before .find-pending .ensures .0), (simp (c .before .before .before .before .put-store .ensures .0, c .before .before .before .before .before .before .before .before .digest-success .ensures, c .before .before .before .before .before .before .before .before .before .find-pending .ensures .0), simp (c .before .before .before .before .put-store .ensures .1, c .before .before .before .before .before .before .before .before .digest-success .ensures, c .before .before .before .before .before .before .before .before .before .find-pending .ensures .0)))
+returns c =
+    let put = c .before .before .before .before .put-store .ensures in
+    let digest = c .before .before .before .before .before .before .before .before .digest-success .ensures in
+    let pending = c .before .before .before .before .before .before .before .before .before .find-pending .ensures .0 in
+    (simp (digest, pending), (simp (put .0, digest, pending), simp (put .1, digest, pending)))
 
 pub complete-spec : {M : Type 1} → statement M
 complete-spec =

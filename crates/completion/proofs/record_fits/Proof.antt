@@ -14,7 +14,9 @@ good-record-requires c κs = search needs
 
 returns : tie.Need-returns
 unfolding recordFits
-returns c = simp (simp (c .before .before .block-sectors .ensures) at (sym (c .before .good-record .ensures) ∙ not-true _ (c .if1 .taken)))
+returns c =
+    let bad = sym (c .before .good-record .ensures) ∙ not-true _ (c .if1 .taken) in
+    simp (simp (c .before .before .block-sectors .ensures) at bad)
 
 enum-told : tie.Need-enum-told
 enum-told c = search needs
@@ -30,11 +32,15 @@ matches-sequential-requires c κs = record-sound _ (c .before .before .before .b
 
 returns-2 : tie.Need-returns-2
 unfolding recordFits
-returns-2 c = simp (simp (c .before .before .before .before .before .block-sectors .ensures) at (sym (c .before .before .before .before .good-record .ensures) ∙ not-false _ (c .before .before .before .if1 .left)), c .before .enum-told .given .1, c .within-conventional .ensures)
+returns-2 c =
+    let good = sym (c .before .before .before .before .good-record .ensures) ∙ not-false _ (c .before .before .before .if1 .left) in
+    simp (simp (c .before .before .before .before .before .block-sectors .ensures) at good, c .before .enum-told .given .1, c .within-conventional .ensures)
 
 returns-3 : tie.Need-returns-3
 unfolding recordFits
-returns-3 c = simp (simp (c .before .before .before .before .before .block-sectors .ensures) at (sym (c .before .before .before .before .good-record .ensures) ∙ not-false _ (c .before .before .before .if1 .left)), c .before .enum-told2 .given .1, c .matches-sequential .ensures)
+returns-3 c =
+    let good = sym (c .before .before .before .before .good-record .ensures) ∙ not-false _ (c .before .before .before .if1 .left) in
+    simp (simp (c .before .before .before .before .before .block-sectors .ensures) at good, c .before .enum-told2 .given .1, c .matches-sequential .ensures)
 
 pub record-fits-spec : {M : Type 1} → statement M
 record-fits-spec =

@@ -15,7 +15,9 @@ rule-of-requires : tie.Need-rule-of-requires
 rule-of-requires c κs = search needs
 
 ruled-size-requires : tie.Need-ruled-size-requires
-ruled-size-requires c κs = (c .before .before .before .pre, simp (c .rule-of .ensures, c .before .recovery-grid .ensures, c .before .before .condition-of .ensures) (fixed-healthy (c .before .before .before .args .policy) (conditionOf (c .before .before .before .args .z))))
+ruled-size-requires c κs =
+    let a = c .before .before .before .args in
+    (c .before .before .before .pre, simp (c .rule-of .ensures, c .before .recovery-grid .ensures, c .before .before .condition-of .ensures) (fixed-healthy (a .policy) (conditionOf (a .z))))
 
 ruled-access-requires : tie.Need-ruled-access-requires
 ruled-access-requires c κs = search needs

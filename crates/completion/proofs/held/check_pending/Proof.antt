@@ -21,8 +21,11 @@ counts-fit-requires c κs = search needs
 
 returns-2 : tie.Need-returns-2
 unfolding pendingOf
-returns-2 c = let h = c .before .before .before .before .outstanding .given .0 .0 in
-    simp (c .before .before .before .before .outstanding .given .1, file-counts _ (c .before .before .before .before .before .before .before .before .args .cnv .now) (c .before .before .before .before .before .before .before .before .args .seq .now) (h .kind) (h .number) (sym (c .before .counts-fit .ensures .0) ∙ not-true _ (c .if1 .taken)))
+returns-2 c =
+    let a = c .before .before .before .before .before .before .before .before .args in
+    let held = c .before .before .before .before .outstanding .given in
+    let few = sym (c .before .counts-fit .ensures .0) ∙ not-true _ (c .if1 .taken) in
+    simp (held .1, file-counts _ (a .cnv .now) (a .seq .now) (held .0 .0 .kind) (held .0 .0 .number) few)
 
 lookup-requires : tie.Need-lookup-requires
 lookup-requires c κs = sym (c .before .counts-fit .ensures .0) ∙ not-false _ (c .if1 .left)
@@ -35,7 +38,9 @@ enum-told-2 c = search needs
 
 returns-3 : tie.Need-returns-3
 unfolding pendingOf
-returns-3 c = simp (c .before .before .before .before .before .before .before .outstanding .given .1, file-none _ _ _ _ _ (sym (c .before .before .before .before .counts-fit .ensures .0) ∙ not-false _ (c .before .before .before .if1 .left)) (sym (c .before .before .lookup .ensures) ∙ c .enum-told2 .given .1))
+returns-3 c =
+    let fit = sym (c .before .before .before .before .counts-fit .ensures .0) ∙ not-false _ (c .before .before .before .if1 .left) in
+    simp (c .before .before .before .before .before .before .before .outstanding .given .1, file-none _ _ _ _ _ fit (sym (c .before .before .lookup .ensures) ∙ c .enum-told2 .given .1))
 
 sound-slot-requires : tie.Need-sound-slot-requires
 sound-slot-requires c κs = c .before .before .before .before .before .counts-fit .ensures .1 (not-false _ (c .before .before .before .before .if1 .left))
@@ -45,7 +50,9 @@ held-on-requires c κs = (c .before .before .before .before .before .before .cou
 
 returns-4 : tie.Need-returns-4
 unfolding pendingOf
-returns-4 c = simp (c .before .before .before .before .before .before .before .before .before .before .outstanding .given .1, file-found _ _ _ _ _ (sym (c .before .before .before .before .before .before .before .counts-fit .ensures .0) ∙ not-false _ (c .before .before .before .before .before .before .if1 .left)) (sym (c .before .before .before .before .before .lookup .ensures) ∙ c .before .before .before .slot .given .1), c .held-on .ensures, c .before .sound-slot .ensures .0)
+returns-4 c =
+    let fit = sym (c .before .before .before .before .before .before .before .counts-fit .ensures .0) ∙ not-false _ (c .before .before .before .before .before .before .if1 .left) in
+    simp (c .before .before .before .before .before .before .before .before .before .before .outstanding .given .1, file-found _ _ _ _ _ fit (sym (c .before .before .before .before .before .lookup .ensures) ∙ c .before .before .before .slot .given .1), c .held-on .ensures, c .before .sound-slot .ensures .0)
 
 pub check-pending-spec : {M : Type 1} → statement M
 check-pending-spec =
