@@ -48,25 +48,32 @@ unfoldable pub checkReport : ReportCheck → MountAnswer → MountAnswer
 checkReport report.Good rest = rest
 checkReport (report.Bad r) rest = Refused r
 
--- "too few rows for either kind", with so many rows and so many files
-abbrev pub tooFew : ℕ → ℕ → ℕ → ℕ → Bool
-tooFew cnvRoom seqRoom cnvs seqs = ltb cnvRoom cnvs || ltb seqRoom seqs
-
-unfoldable pub fitAnswer : ℕ → ℕ → ℕ → ℕ → MountAnswer
-fitAnswer cnvRoom seqRoom cnvs seqs = refuse (tooFew cnvRoom seqRoom cnvs seqs) TooFewRows (Mounted cnvs seqs)
-
 -- "Zone 0 never"
 unfoldable pub fileZones : List ℕ → List Zone
 fileZones b = drop 1 (zonesOf b)
 
--- the answer to a block, the findings on super block and options, a report, and room for so many rows of each kind
+-- "too few rows for either kind"
+abbrev pub tooFew : ℕ → ℕ → ℕ → ℕ → Bool
+tooFew cnvRoom seqRoom cnvs seqs = ltb cnvRoom cnvs || ltb seqRoom seqs
+
+-- 30, with room for so many rows of each kind
+unfoldable pub fitAnswer : Bool → List Zone → ℕ → ℕ → MountAnswer
+fitAnswer aggregate zs cnvRoom seqRoom =
+    refuse (tooFew cnvRoom seqRoom (length (cnvRows aggregate zs)) (length (seqRows zs))) TooFewRows
+    (Mounted (length (cnvRows aggregate zs)) (length (seqRows zs)))
+
+-- 28 to 30
+unfoldable pub reportAnswer : ℕ → Bool → List ℕ → ℕ → ℕ → MountAnswer
+reportAnswer block aggregate b cnvRoom seqRoom =
+    checkReport (reportCheck (blockSectors block) b) (fitAnswer aggregate (fileZones b) cnvRoom seqRoom)
+
+-- 20 to 30, from the findings on super block and options
 unfoldable pub answerOf : ℕ → SuperCheck → Options → Bool → List ℕ → ℕ → ℕ → MountAnswer
 answerOf block super options aggregate b cnvRoom seqRoom =
     refuse (not (goodBlock block)) BadBlock
     (checkSuper super
     (checkOptions options
-    (checkReport (reportCheck (blockSectors block) b)
-    (fitAnswer cnvRoom seqRoom (length (cnvRows aggregate (fileZones b))) (length (seqRows (fileZones b)))))))
+    (reportAnswer block aggregate b cnvRoom seqRoom)))
 
 -- ---- what it gives
 

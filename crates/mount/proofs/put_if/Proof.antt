@@ -1,0 +1,29 @@
+use borrow.Author.Needs.{needs}
+use Rattle.mount.proofs.put_if.Statement.{statement}
+use Rattle.mount.proofs.put_if.Tie as tie
+use Rattle.mount.proofs.put_if.Reads as reads
+use Rattle.mount.proofs.put_if.Lts as lts
+use Rattle.table.proofs.put_row.Reads as put-row-reads
+
+-- src/lib.rt:131:9
+put-row-requires : tie.Need-put-row-requires
+put-row-requires c κs = ?
+
+-- src/lib.rt:132:16
+add-result : tie.Need-add-result
+add-result c = search needs
+
+-- src/lib.rt:132:9
+same-length : tie.Need-same-length
+same-length c = search needs
+
+-- src/lib.rt:132:9
+returns : tie.Need-returns
+returns c = ?
+
+-- src/lib.rt:125:1
+returns-2 : tie.Need-returns-2
+returns-2 c = ?
+
+pub put-if-spec : {M : Type 1} → statement M
+put-if-spec = tie.close (tie.spec put-row-requires add-result same-length returns returns-2)
