@@ -1,15 +1,18 @@
 -- The same rows from zone to zone, with the run that is not over yet, and the same table store by store: how the code goes.
--- `Laws` of the proofs says that they are those of `Files` and `Fill`.
-use Prim.Native.Nat.{ℕ, _+_}
+-- The proofs `Runs` and `Tables` show that they are those of `Files` and `Fill`.
+use Prim.Native.Nat.{ℕ, _+_, _≤_}
 use mathlib.Core.List.{List, [], _∷_}
 use mathlib.Core.Bool.{Bool, true, false, cond, not, _&&_}
+use lib.ListN.{length}
 use Rattle.types.specs.Blocks.{bytesOf}
 use Rattle.types.specs.declared.Row.{Row}
 use Rattle.table.specs.Rows.{setRow}
 use Rattle.zones.specs.declared.Zone.{Zone}
 use Rattle.zones.specs.Zone.{conventional, healthy}
 use Rattle.mount.specs.declared.Run.{Run}
-use Rattle.mount.specs.Files.{fileRow, rowIf}
+use Rattle.zones.specs.Told.{Framed, AllSound}
+use Rattle.mount.specs.Files.{fileRow, rowIf, seqRows, cnvRows}
+use Rattle.mount.specs.Mount.{fileZones}
 
 abbrev pub noRun : Run
 noRun = record { active = false; start = 0; capacity = 0; healthy = true }
@@ -40,3 +43,10 @@ cnvFrom aggregate s (z ∷ zs) = rowIf (runEnds aggregate s z) (rowOfRun s) (cnv
 unfoldable pub fillFrom : List ℕ → ℕ → List Row → List ℕ
 fillFrom t i [] = t
 fillFrom t i (r ∷ rs) = fillFrom (setRow t i r) (i + 1) rs
+
+-- what lets the rows of a report be stored in tables with so many rows: what a mount that is not refused tells
+pub record Fits (aggregate : Bool) (b : List ℕ) (cnvRoom seqRoom : ℕ) : Type 0 where
+  pub frame : Framed b
+  pub sound : AllSound (fileZones b)
+  pub cnvs : length (cnvRows aggregate (fileZones b)) ≤ cnvRoom
+  pub seqs : length (seqRows (fileZones b)) ≤ seqRoom

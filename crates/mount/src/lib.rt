@@ -1,15 +1,16 @@
 // A mount: the checks 20 to 30, and the rows of a report's files, written into two lent tables.
 ghost use mathlib.Core.Path.{_≡_};
 ghost use mathlib.Core.Bool.{true, cond};
-ghost use Prim.Native.Nat.{_+_, _*_, _≤_, _<_, _^_};
+ghost use Prim.Native.Nat.{ℕ, _+_, _*_, _≤_, _<_, _^_};
 ghost use lib.ListN.{length};
 ghost use Rattle.types.specs.Blocks.{bytesOf, goodBlock};
+ghost use Rattle.types.specs.declared.MountAnswer.the-variants.{Mounted};
 ghost use Rattle.table.specs.Rows.{rowsLent, setRow};
 ghost use Rattle.zones.specs.Zone.{sequential};
 ghost use Rattle.zones.specs.Told.{Framed, Sound, AllSound};
 ghost use Rattle.mount.specs.Files.{fileRow, seqRow, seqRows, cnvRows};
 ghost use Rattle.mount.specs.Fill.{fill};
-ghost use Rattle.mount.specs.Walk.{noRun, nextRun, runEnds, rowOfRun};
+ghost use Rattle.mount.specs.Walk.{noRun, nextRun, runEnds, rowOfRun, Fits};
 ghost use Rattle.mount.specs.Mount.{fileZones, fitAnswer, reportAnswer, answerOf, policyOf, mountOf, tableAfter, mountOutcome};
 use options::Options;
 use superblock::SuperBlock;
@@ -137,7 +138,7 @@ fn put_if(t: &mut [u64], i: usize, yes: bool, row: Row) -> usize
 // The number of a report's seq files.
 fn seq_files(b: &[u8]) -> usize
     requires { ⌜ Framed (now b) ⌝ }
-    ensures { λ r. ⌜ (r ≡ length (seqRows (fileZones (now (b .entry))))) × (r < 1023) ⌝ }
+    ensures { λ r. ⌜ (r ≡ length (seqRows (fileZones (now (b .entry))))) × (r ≤ 1023) ⌝ }
 {
     let count = zones::zone_count(b);
     let mut n = 0;
@@ -151,7 +152,7 @@ fn seq_files(b: &[u8]) -> usize
 // The number of a report's cnv files.
 fn cnv_files(b: &[u8], aggregate: bool) -> usize
     requires { ⌜ Framed (now b) × AllSound (fileZones (now b)) ⌝ }
-    ensures { λ r. ⌜ (r ≡ length (cnvRows aggregate (fileZones (now (b .entry))))) × (r < 1023) ⌝ }
+    ensures { λ r. ⌜ (r ≡ length (cnvRows aggregate (fileZones (now (b .entry))))) × (r ≤ 1023) ⌝ }
 {
     let count = zones::zone_count(b);
     let mut n = 0;
@@ -230,4 +231,104 @@ fn report_answer(block: u64, aggregate: bool, b: &[u8], cnvs: usize, seqs: usize
         ReportCheck::Good => fit_answer(b, aggregate, cnvs, seqs),
         ReportCheck::Bad(r) => MountAnswer::Refused(r),
     }
+}
+
+// The answer, from what was found of the super block and of the options.
+fn answer_of(
+    block: u64,
+    check: SuperCheck,
+    parsed: Options,
+    aggregate: bool,
+    b: &[u8],
+    cnvs: usize,
+    seqs: usize,
+) -> MountAnswer
+    ensures { λ r. ⌜ r ≡ answerOf block check parsed aggregate (now (b .entry)) cnvs seqs ⌝ }
+{
+    if !types::good_block(block) {
+        return MountAnswer::Refused(Refusal::BadBlock);
+    }
+    if let SuperCheck::Bad(r) = check {
+        return MountAnswer::Refused(r);
+    }
+    if let Options::Bad = parsed {
+        return MountAnswer::Refused(Refusal::BadOptions);
+    }
+    report_answer(block, aggregate, b, cnvs, seqs)
+}
+
+// Stores the rows of a report's files, where the mount is not refused.
+fn fill_tables(answer: MountAnswer, aggregate: bool, b: &[u8], cnv: &mut [u64], seq: &mut [u64])
+    requires { ⌜ ((c s : ℕ) → answer ≡ Mounted c s → Fits aggregate (now b) (rowsLent (length (now cnv))) (rowsLent (length (now seq)))) ⌝ }
+    ensures cnvs { λ _. ⌜ now (cnv .exit) ≡ tableAfter answer (now (cnv .entry)) (cnvRows aggregate (fileZones (now (b .entry)))) ⌝ }
+    ensures seqs { λ _. ⌜ now (seq .exit) ≡ tableAfter answer (now (seq .entry)) (seqRows (fileZones (now (b .entry)))) ⌝ }
+{
+    if let MountAnswer::Mounted(_, _) = answer {
+        write_cnv(b, aggregate, cnv);
+        write_seq(b, seq);
+    }
+}
+
+// The policy that options name. Bad ones name none, and the mount is refused.
+fn policy_of(parsed: Options) -> ErrorPolicy
+    ensures { λ r. ⌜ r ≡ policyOf parsed ⌝ }
+{
+    match parsed {
+        Options::Policy(p) => p,
+        Options::Bad => ErrorPolicy::RemountRo,
+    }
+}
+
+// The mount value: a refused mount hands out the empty one.
+fn mount_of(answer: MountAnswer, block: u64, fields: SuperBlock, policy: ErrorPolicy) -> Mount
+    ensures { λ r. ⌜ r ≡ mountOf answer block fields policy ⌝ }
+{
+    match answer {
+        MountAnswer::Refused(_) => types::empty_mount(),
+        MountAnswer::Mounted(cnvs, seqs) => {
+            let uuid = fields.uuid;
+            let volume = Volume {
+                block,
+                conventional: cnvs,
+                sequential: seqs,
+                owner: fields.owner,
+                group: fields.group,
+                mode: fields.mode,
+                policy,
+                uuid,
+            };
+            Mount {
+                volume,
+                readonly: false,
+                outstanding: Outstanding::Idle,
+            }
+        }
+    }
+}
+
+// Mounts: checks what is lent, fills the tables with the rows of the report's files, and hands out the mount value.
+pub fn mount(
+    block: u64,
+    superblock: &[u8],
+    options: &[u8],
+    report: &[u8],
+    cnv: &mut [u64],
+    seq: &mut [u64],
+) -> MountOutcome
+    ensures answer { λ r. ⌜ r .answer ≡ mountOutcome block (now (superblock .entry)) (now (options .entry)) (now (report .entry)) (now (cnv .entry)) (now (seq .entry)) .answer ⌝ }
+    ensures mount { λ r. ⌜ r .mount ≡ mountOutcome block (now (superblock .entry)) (now (options .entry)) (now (report .entry)) (now (cnv .entry)) (now (seq .entry)) .mount ⌝ }
+    ensures cnvs { λ _. ⌜ now (cnv .exit) ≡ mountOutcome block (now (superblock .entry)) (now (options .entry)) (now (report .entry)) (now (cnv .entry)) (now (seq .entry)) .cnv ⌝ }
+    ensures seqs { λ _. ⌜ now (seq .exit) ≡ mountOutcome block (now (superblock .entry)) (now (options .entry)) (now (report .entry)) (now (cnv .entry)) (now (seq .entry)) .seq ⌝ }
+{
+    let read = superblock::read_superblock(superblock);
+    let check = read.check;
+    let fields = read.fields;
+    let aggregate = fields.aggregate;
+    let parsed = options::read_options(options);
+    let cnvs = table::rows_lent(cnv.len());
+    let seqs = table::rows_lent(seq.len());
+    let answer = answer_of(block, check, parsed, aggregate, report, cnvs, seqs);
+    fill_tables(answer, aggregate, report, cnv, seq);
+    let mount = mount_of(answer, block, fields, policy_of(parsed));
+    MountOutcome { answer, mount }
 }

@@ -1,75 +1,83 @@
+use Rattle.mount.proofs.Turns.{cnv-first, cnv-next, cnv-none, run-bound, turn-count}
+use Rattle.mount.specs.Files.{cnvRows}
+use Rattle.mount.specs.Mount.{fileZones}
+use Rattle.mount.specs.Walk.{rowOfRun, cnvFrom}
+use Rattle.zones.specs.Report.{zonesOf}
+use Rattle.zones.specs.Told.{AllSound}
+use Rattle.zones.proofs.Laws.{zones-next, zones-done, sound-next}
+use lib.ListN.{length, drop}
+use native.Mathlib.Omega.{arith}
+use mathlib.Core.List.{[]}
+use mathlib.Core.Path.{_≡_, _∙_, ap, refl}
+use Prim.Native.Nat.{_+_, _-_, _*_, _^_, _≤_}
+use borrow.Author.Needs.{needs}
 use Rattle.mount.proofs.cnv_files.Statement.{statement}
 use Rattle.mount.proofs.cnv_files.Tie as tie
-use Rattle.mount.proofs.cnv_files.Reads as reads
-use Rattle.mount.proofs.cnv_files.Lts as lts
-use Rattle.mount.proofs.files.Reads as files-reads
-use Rattle.mount.proofs.next_run.Reads as next-run-reads
-use Rattle.mount.proofs.no_run.Reads as no-run-reads
-use Rattle.mount.proofs.run_ends.Reads as run-ends-reads
-use Rattle.zones.proofs.zone_count.Reads as zone-count-reads
-use Rattle.zones.proofs.zone_of.Reads as zone-of-reads
 
 abbrev Inv-loop : tie.InvT-loop
-Inv-loop b aggregate count n₀ run₀ i₀ n run i = ?
+Inv-loop b aggregate count n₀ run₀ i₀ n run i =
+    (n + 1 ≤ i) × (i ≤ count) × (run .capacity ≤ 2 ^ 40 * i) × AllSound (drop i (zonesOf b))
+    × (n + length (cnvFrom aggregate run (drop i (zonesOf b))) ≡ length (cnvRows aggregate (fileZones b)))
 
 abbrev μ-loop : tie.MeasureT-loop
-μ-loop b aggregate count n₀ run₀ i₀ n run i = ?
+μ-loop b aggregate count n₀ run₀ i₀ n run i = count - i
 
--- src/lib.rt:156:9
 zone-count-requires : tie.Need-zone-count-requires Inv-loop μ-loop
-zone-count-requires c κs = ?
+zone-count-requires c κs = search needs
 
--- src/lib.rt:158:9
 no-run-requires : tie.Need-no-run-requires Inv-loop μ-loop
-no-run-requires c κs = ?
+no-run-requires c κs = search needs
 
--- src/lib.rt:159:5
 loop-holds : tie.Need-loop-holds Inv-loop μ-loop
-loop-holds c = ?
+unfolding fileZones
+loop-holds c = let e = c .no-run .ensures in
+    let all = cnv-first (c .before .before .before .args .aggregate) (c .no-run .result) (c .before .before .before .args .b .now) e in
+    (search needs, search needs, omega (arith, ap (λ s. s .capacity) e), c .before .before .before .pre .1, omega (arith, ap length all))
 
--- src/lib.rt:160:13
 zone-of-requires : tie.Need-zone-of-requires Inv-loop μ-loop
-zone-of-requires c κs = ?
+zone-of-requires c κs = search needs
 
--- src/lib.rt:161:20
 run-ends-requires : tie.Need-run-ends-requires Inv-loop μ-loop
-run-ends-requires c κs = ?
+run-ends-requires c κs = search needs
 
--- src/lib.rt:161:14
 files-requires : tie.Need-files-requires Inv-loop μ-loop
-files-requires c κs = ?
+files-requires c κs = search needs
 
--- src/lib.rt:161:9
 add-n : tie.Need-add-n Inv-loop μ-loop
-add-n c = ?
+add-n c = search needs
 
--- src/lib.rt:162:9
 next-run-requires : tie.Need-next-run-requires Inv-loop μ-loop
-next-run-requires c κs = ?
+next-run-requires c κs = let z = c .before .before .zone-of in
+    let s = sound-next _ _ _ (zones-next (c .before .before .before .before .before .before .before .before .args .b .now) (c .before .before .before .before .loop .i) (z .result) (z .ensures) (omega arith)) (c .before .before .before .before .loop .inv .3) .0 in
+    omega arith
 
--- src/lib.rt:159:9
 add-i : tie.Need-add-i Inv-loop μ-loop
-add-i c = ?
+add-i c = search needs
 
--- src/lib.rt:159:5
 loop-less : tie.Need-loop-less Inv-loop μ-loop
-loop-less c = ?
+loop-less c = search needs
 
--- src/lib.rt:159:5
 loop-again : tie.Need-loop-again Inv-loop μ-loop
-loop-again c = ?
+loop-again c = let l = c .before .before .before .before .before .loop in
+    let z = c .before .before .before .zone-of in
+    let n = c .next-run in
+    let next = zones-next (c .before .before .before .before .before .before .before .before .before .args .b .now) (l .i) (z .result) (z .ensures) (omega arith) in
+    let s = sound-next _ _ _ next (l .inv .3) in
+    let small : z .result .capacity ≤ 2 ^ 40 = omega arith in
+    let bound = run-bound (c .before .before .before .before .before .before .before .before .before .args .aggregate) (l .run) (z .result) small in
+    let rows = cnv-next (c .before .before .before .before .before .before .before .before .before .args .aggregate) (l .run) (n .result) (z .result) _ _ (c .before .before .run-ends .result) (rowOfRun (l .run)) next (c .before .before .run-ends .ensures) (n .ensures) refl in
+    (search needs, search needs, omega (arith, ap (λ s. s .capacity) (n .ensures)), s .1, omega (arith, turn-count _ _ (c .before .before .run-ends .result) _ rows))
 
--- src/lib.rt:164:9
 files-requires-2 : tie.Need-files-requires-2 Inv-loop μ-loop
-files-requires-2 c κs = ?
+files-requires-2 c κs = search needs
 
--- src/lib.rt:164:5
 add-result : tie.Need-add-result Inv-loop μ-loop
-add-result c = ?
+add-result c = search needs
 
--- src/lib.rt:152:1
 returns : tie.Need-returns Inv-loop μ-loop
-returns c = ?
+returns c = let l = c .before .before .loop in
+    let none = zones-done (c .before .before .before .before .before .before .args .b .now) (l .i) (omega arith) in
+    (omega (arith, turn-count _ [] (l .run .active) _ (cnv-none (c .before .before .before .before .before .before .args .aggregate) (l .run) _ _ none refl)), search needs)
 
 pub cnv-files-spec : {M : Type 1} → statement M
 cnv-files-spec =

@@ -16,11 +16,11 @@ offline-row-requires c κs = search needs
 
 -- src/lib.rt:37:1
 returns : tie.Need-returns
-returns c = ?
+returns c = rw (c .healthy-row .ensures, c .before .if1 .taken)
 
 -- src/lib.rt:37:1
 returns-2 : tie.Need-returns-2
-returns-2 c = ?
+returns-2 c = rw (c .offline-row .ensures, c .before .if1 .left)
 
 pub file-row-spec : {M : Type 1} → statement M
 file-row-spec = tie.close (tie.spec healthy-row-requires offline-row-requires returns returns-2)

@@ -1,3 +1,4 @@
+use Rattle.mount.specs.Walk.{nextRun}
 use borrow.Author.Needs.{needs}
 use Rattle.mount.proofs.next_run.Statement.{statement}
 use Rattle.mount.proofs.next_run.Tie as tie
@@ -25,15 +26,18 @@ no-run-requires c κs = search needs
 
 -- src/lib.rt:73:1
 returns : tie.Need-returns
-returns c = ?
+unfolding nextRun
+returns c = rw (c .before .before .before .before .before .before .before .is-healthy .ensures, ← c .before .before .before .before .before .before .is-conventional .ensures, c .before .before .before .before .if1 .taken, c .before .before .before .if2 .taken)
 
 -- src/lib.rt:73:1
 returns-2 : tie.Need-returns-2
-returns-2 c = ?
+unfolding nextRun
+returns-2 c = rw (c .before .before .before .before .is-healthy .ensures, ← c .before .before .before .is-conventional .ensures, c .before .if1 .taken, c .if2 .left)
 
 -- src/lib.rt:73:1
 returns-3 : tie.Need-returns-3
-returns-3 c = ?
+unfolding nextRun
+returns-3 c = rw (c .no-run .ensures, ← c .before .before .before .is-conventional .ensures, c .before .if1 .left)
 
 pub next-run-spec : {M : Type 1} → statement M
 next-run-spec =

@@ -16,7 +16,7 @@ file-row-requires c κs = search needs
 
 -- src/lib.rt:109:1
 returns : tie.Need-returns
-returns c = ?
+returns c = rw (c .file-row .ensures, c .before .bytes-of .ensures)
 
 pub row-of-run-spec : {M : Type 1} → statement M
 row-of-run-spec = tie.close (tie.spec bytes-of-requires file-row-requires returns)

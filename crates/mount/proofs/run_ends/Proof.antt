@@ -11,7 +11,7 @@ is-conventional-requires c κs = search needs
 
 -- src/lib.rt:102:1
 returns : tie.Need-returns
-returns c = ?
+returns c = rw (c .before .is-conventional .ensures)
 
 pub run-ends-spec : {M : Type 1} → statement M
 run-ends-spec = tie.close (tie.spec is-conventional-requires returns)

@@ -1,3 +1,5 @@
+use mathlib.Core.Path.{_∙_, sym}
+use Rattle.types.proofs.Tests.{both}
 use borrow.Author.Needs.{needs}
 use Rattle.mount.proofs.seq_row.Statement.{statement}
 use Rattle.mount.proofs.seq_row.Tie as tie
@@ -19,7 +21,7 @@ is-healthy-requires c κs = search needs
 
 -- src/lib.rt:54:13
 written-size-requires : tie.Need-written-size-requires
-written-size-requires c κs = ?
+written-size-requires c κs = (search needs, both (c .before .before .before .pre .1) (sym (c .before .is-healthy .ensures) ∙ c .if1 .taken))
 
 -- src/lib.rt:55:9
 healthy-row-requires : tie.Need-healthy-row-requires
@@ -31,11 +33,11 @@ offline-row-requires c κs = search needs
 
 -- src/lib.rt:48:1
 returns : tie.Need-returns
-returns c = ?
+returns c = rw (c .healthy-row .ensures, c .before .before .before .before .bytes-of .ensures, c .before .written-size .ensures, ← c .before .before .before .is-healthy .ensures, c .before .before .if1 .taken)
 
 -- src/lib.rt:48:1
 returns-2 : tie.Need-returns-2
-returns-2 c = ?
+returns-2 c = rw (c .offline-row .ensures, c .before .before .before .bytes-of .ensures, ← c .before .before .is-healthy .ensures, c .before .if1 .left)
 
 pub seq-row-spec : {M : Type 1} → statement M
 seq-row-spec =

@@ -1,0 +1,60 @@
+use borrow.Author.Needs.{needs}
+use Rattle.mount.proofs.answer_of.Statement.{statement}
+use Rattle.mount.proofs.answer_of.Tie as tie
+use Rattle.mount.proofs.answer_of.Reads as reads
+use Rattle.mount.proofs.answer_of.Lts as lts
+use Rattle.mount.proofs.report_answer.Reads as report-answer-reads
+use Rattle.types.proofs.good_block.Reads as good-block-reads
+
+-- src/lib.rt:248:9
+good-block-requires : tie.Need-good-block-requires
+good-block-requires c κs = search needs
+
+-- src/lib.rt:249:9
+returns : tie.Need-returns
+returns c = ?
+
+-- src/lib.rt:251:28
+enum-known-check : tie.Need-enum-known-check
+enum-known-check c = search needs
+
+-- src/lib.rt:252:9
+returns-2 : tie.Need-returns-2
+returns-2 c = ?
+
+enum-told : tie.Need-enum-told
+enum-told c = search needs
+
+-- src/lib.rt:255:37
+enum-told-2 : tie.Need-enum-told-2
+enum-told-2 c = search needs
+
+-- src/lib.rt:255:9
+returns-3 : tie.Need-returns-3
+returns-3 c = ?
+
+enum-told-3 : tie.Need-enum-told-3
+enum-told-3 c = search needs
+
+-- src/lib.rt:257:5
+report-answer-requires : tie.Need-report-answer-requires
+report-answer-requires c κs = ?
+
+-- src/lib.rt:237:1
+returns-4 : tie.Need-returns-4
+returns-4 c = ?
+
+pub answer-of-spec : {M : Type 1} → statement M
+answer-of-spec =
+    tie.close
+    (tie.spec
+    good-block-requires
+    returns
+    enum-known-check
+    returns-2
+    enum-told
+    enum-told-2
+    returns-3
+    enum-told-3
+    report-answer-requires
+    returns-4)

@@ -1,0 +1,51 @@
+use borrow.Author.Needs.{needs}
+use Rattle.mount.proofs.fill_tables.Statement.{statement}
+use Rattle.mount.proofs.fill_tables.Tie as tie
+use Rattle.mount.proofs.fill_tables.Reads as reads
+use Rattle.mount.proofs.fill_tables.Lts as lts
+use Rattle.mount.proofs.write_cnv.Reads as write-cnv-reads
+use Rattle.mount.proofs.write_seq.Reads as write-seq-reads
+
+-- src/lib.rt:267:33
+enum-told : tie.Need-enum-told
+enum-told c = search needs
+
+-- src/lib.rt:267:9
+write-cnv-requires : tie.Need-write-cnv-requires
+write-cnv-requires c κs = ?
+
+-- src/lib.rt:268:9
+write-seq-requires : tie.Need-write-seq-requires
+write-seq-requires c κs = ?
+
+enum-told-2 : tie.Need-enum-told-2
+enum-told-2 c = search needs
+
+-- src/lib.rt:261:1
+same-length : tie.Need-same-length
+same-length c = search needs
+
+-- src/lib.rt:261:1
+same-length-2 : tie.Need-same-length-2
+same-length-2 c = search needs
+
+-- src/lib.rt:261:1
+returns : tie.Need-returns
+returns c = ?
+
+-- src/lib.rt:261:1
+returns-2 : tie.Need-returns-2
+returns-2 c = ?
+
+pub fill-tables-spec : {M : Type 1} → statement M
+fill-tables-spec =
+    tie.close
+    (tie.spec
+    enum-told
+    write-cnv-requires
+    write-seq-requires
+    enum-told-2
+    same-length
+    same-length-2
+    returns
+    returns-2)

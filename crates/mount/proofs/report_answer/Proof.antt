@@ -1,0 +1,54 @@
+use Rattle.mount.proofs.Mounted.{block-positive, report-sound}
+use Rattle.mount.specs.Mount.{reportAnswer, checkReport}
+use mathlib.Core.Path.{_∙_, sym}
+use native.Mathlib.Omega.{arith}
+use borrow.Author.Needs.{needs}
+use Rattle.mount.proofs.report_answer.Statement.{statement}
+use Rattle.mount.proofs.report_answer.Tie as tie
+use Rattle.mount.proofs.report_answer.Reads as reads
+use Rattle.mount.proofs.report_answer.Lts as lts
+use Rattle.mount.proofs.fit_answer.Reads as fit-answer-reads
+use Rattle.zones.proofs.block_sectors.Reads as block-sectors-reads
+use Rattle.zones.proofs.check_report.Reads as check-report-reads
+
+-- src/lib.rt:228:40
+block-sectors-requires : tie.Need-block-sectors-requires
+block-sectors-requires c κs = search needs
+
+-- src/lib.rt:228:9
+check-report-requires : tie.Need-check-report-requires
+check-report-requires c κs = omega (arith, block-positive (c .before .before .args .block) (c .before .before .pre), c .block-sectors .ensures)
+
+-- src/lib.rt:230:30
+enum-told : tie.Need-enum-told
+enum-told c = search needs
+
+-- src/lib.rt:230:30
+fit-answer-requires : tie.Need-fit-answer-requires
+fit-answer-requires c κs = ?
+
+-- src/lib.rt:231:26
+enum-known-check : tie.Need-enum-known-check
+enum-known-check c = search needs
+
+-- src/lib.rt:224:1
+returns : tie.Need-returns
+unfolding reportAnswer checkReport
+returns c = ?
+
+-- src/lib.rt:224:1
+returns-2 : tie.Need-returns-2
+unfolding reportAnswer checkReport
+returns-2 c = ?
+
+pub report-answer-spec : {M : Type 1} → statement M
+report-answer-spec =
+    tie.close
+    (tie.spec
+    block-sectors-requires
+    check-report-requires
+    enum-told
+    fit-answer-requires
+    enum-known-check
+    returns
+    returns-2)
