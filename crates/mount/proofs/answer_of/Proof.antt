@@ -1,3 +1,6 @@
+use Rattle.mount.specs.Mount.{answerOf, refuse, checkSuper, checkOptions}
+use mathlib.Core.Path.{_∙_, sym}
+use borrow.Author.Tests.{not-false}
 use borrow.Author.Needs.{needs}
 use Rattle.mount.proofs.answer_of.Statement.{statement}
 use Rattle.mount.proofs.answer_of.Tie as tie
@@ -12,7 +15,8 @@ good-block-requires c κs = search needs
 
 -- src/lib.rt:249:9
 returns : tie.Need-returns
-returns c = ?
+unfolding answerOf refuse
+returns c = rw (← c .before .good-block .ensures, c .if1 .taken)
 
 -- src/lib.rt:251:28
 enum-known-check : tie.Need-enum-known-check
@@ -20,7 +24,8 @@ enum-known-check c = search needs
 
 -- src/lib.rt:252:9
 returns-2 : tie.Need-returns-2
-returns-2 c = ?
+unfolding answerOf refuse checkSuper
+returns-2 c = rw (← c .before .before .before .before .good-block .ensures, c .before .before .before .if1 .left, c .before .check .given .1)
 
 enum-told : tie.Need-enum-told
 enum-told c = search needs
@@ -31,18 +36,20 @@ enum-told-2 c = search needs
 
 -- src/lib.rt:255:9
 returns-3 : tie.Need-returns-3
-returns-3 c = ?
+unfolding answerOf refuse checkSuper checkOptions
+returns-3 c = rw (← c .before .before .before .before .before .good-block .ensures, c .before .before .before .before .if1 .left, c .before .before .enum-told .given .1, c .enum-told2 .given .1)
 
 enum-told-3 : tie.Need-enum-told-3
 enum-told-3 c = search needs
 
 -- src/lib.rt:257:5
 report-answer-requires : tie.Need-report-answer-requires
-report-answer-requires c κs = ?
+report-answer-requires c κs = sym (c .before .before .before .before .before .good-block .ensures) ∙ not-false _ (c .before .before .before .before .if1 .left)
 
 -- src/lib.rt:237:1
 returns-4 : tie.Need-returns-4
-returns-4 c = ?
+unfolding answerOf refuse checkSuper checkOptions
+returns-4 c = rw (c .report-answer .ensures, ← c .before .before .before .before .before .before .good-block .ensures, c .before .before .before .before .before .if1 .left, c .before .before .before .enum-told .given .1, c .before .enum-told3 .given .1)
 
 pub answer-of-spec : {M : Type 1} → statement M
 answer-of-spec =

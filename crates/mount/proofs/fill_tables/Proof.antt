@@ -1,3 +1,4 @@
+use Rattle.mount.specs.Mount.{tableAfter}
 use borrow.Author.Needs.{needs}
 use Rattle.mount.proofs.fill_tables.Statement.{statement}
 use Rattle.mount.proofs.fill_tables.Tie as tie
@@ -12,11 +13,11 @@ enum-told c = search needs
 
 -- src/lib.rt:267:9
 write-cnv-requires : tie.Need-write-cnv-requires
-write-cnv-requires c κs = ?
+write-cnv-requires c κs = let f = c .before .before .before .before .before .before .pre _ _ (c .before .enum-told .given .1) in (f .frame, f .sound, f .cnvs)
 
 -- src/lib.rt:268:9
 write-seq-requires : tie.Need-write-seq-requires
-write-seq-requires c κs = ?
+write-seq-requires c κs = let f = c .before .before .before .before .before .before .before .before .before .before .pre _ _ (c .before .before .before .before .before .enum-told .given .1) in (f .frame, f .sound, f .seqs)
 
 enum-told-2 : tie.Need-enum-told-2
 enum-told-2 c = search needs
@@ -31,11 +32,13 @@ same-length-2 c = search needs
 
 -- src/lib.rt:261:1
 returns : tie.Need-returns
-returns c = ?
+unfolding tableAfter
+returns c = rw (c .before .before .before .before .before .before .before .before .enum-told .given .1) (c .before .before .before .before .before .before .write-cnv .ensures, c .before .before .write-seq .ensures)
 
 -- src/lib.rt:261:1
 returns-2 : tie.Need-returns-2
-returns-2 c = ?
+unfolding tableAfter
+returns-2 c = rw (c .enum-told2 .given .1) (search needs)
 
 pub fill-tables-spec : {M : Type 1} → statement M
 fill-tables-spec =

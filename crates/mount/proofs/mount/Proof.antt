@@ -1,3 +1,6 @@
+use Rattle.mount.proofs.Mounted.{answer-fits}
+use Rattle.mount.specs.Mount.{mountAnswer, mountOutcome}
+use mathlib.Core.Path.{_≡_, _∙_, sym}
 use borrow.Author.Needs.{needs}
 use Rattle.mount.proofs.mount.Statement.{statement}
 use Rattle.mount.proofs.mount.Tie as tie
@@ -33,7 +36,7 @@ answer-of-requires c κs = search needs
 
 -- src/lib.rt:331:5
 fill-tables-requires : tie.Need-fill-tables-requires
-fill-tables-requires c κs = ?
+fill-tables-requires c κs = λ k s e. ?
 
 -- src/lib.rt:332:49
 policy-of-requires : tie.Need-policy-of-requires
@@ -53,6 +56,7 @@ same-length-2 c = search needs
 
 -- src/lib.rt:310:1
 returns : tie.Need-returns
+unfolding mountAnswer mountOutcome
 returns c = ?
 
 pub mount-spec : {M : Type 1} → statement M

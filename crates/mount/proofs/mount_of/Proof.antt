@@ -1,3 +1,4 @@
+use Rattle.mount.specs.Mount.{mountOf}
 use borrow.Author.Needs.{needs}
 use Rattle.mount.proofs.mount_of.Statement.{statement}
 use Rattle.mount.proofs.mount_of.Tie as tie
@@ -19,11 +20,13 @@ enum-known-answer c = search needs
 
 -- src/lib.rt:283:1
 returns : tie.Need-returns
-returns c = ?
+unfolding mountOf
+returns c = rw (c .empty-mount .ensures, c .before .enum-told .given .1)
 
 -- src/lib.rt:283:1
 returns-2 : tie.Need-returns-2
-returns-2 c = ?
+unfolding mountOf
+returns-2 c = rw (c .before .before .answer .given .1)
 
 pub mount-of-spec : {M : Type 1} → statement M
 mount-of-spec =

@@ -25,7 +25,7 @@ enum-told c = search needs
 
 -- src/lib.rt:230:30
 fit-answer-requires : tie.Need-fit-answer-requires
-fit-answer-requires c κs = ?
+fit-answer-requires c κs = report-sound _ (c .before .before .before .before .before .args .b .now) (sym (c .before .before .check-report .ensures) ∙ c .enum-told .given .1)
 
 -- src/lib.rt:231:26
 enum-known-check : tie.Need-enum-known-check
@@ -34,12 +34,12 @@ enum-known-check c = search needs
 -- src/lib.rt:224:1
 returns : tie.Need-returns
 unfolding reportAnswer checkReport
-returns c = ?
+returns c = rw (c .fit-answer .ensures, ← c .before .before .before .before .block-sectors .ensures, ← c .before .before .before .check-report .ensures, c .before .enum-told .given .1)
 
 -- src/lib.rt:224:1
 returns-2 : tie.Need-returns-2
 unfolding reportAnswer checkReport
-returns-2 c = ?
+returns-2 c = rw (← c .before .before .before .before .block-sectors .ensures, ← c .before .before .before .check-report .ensures, c .before .check .given .1)
 
 pub report-answer-spec : {M : Type 1} → statement M
 report-answer-spec =

@@ -11,10 +11,10 @@ rem-result c = search needs
 
 returns : tie.Need-returns
 returns c = let z = c .before .before .before .before .before .before .before .args .z in rw (
-      le-leb (z .start) (z .pointer) (omega arith),
-      leb-same (z .pointer - z .start) (z .capacity) (z .pointer) (z .start + z .capacity) (λ h. omega arith) (λ h. omega arith),
-      eqb-same (z .pointer - z .start) (z .capacity) (z .pointer) (z .start + z .capacity) (λ h. omega arith) (λ h. omega arith),
-    )
+  le-leb (z .start) (z .pointer) (omega arith),
+  leb-same (z .pointer - z .start) (z .capacity) (z .pointer) (z .start + z .capacity) (λ h. omega arith) (λ h. omega arith),
+  eqb-same (z .pointer - z .start) (z .capacity) (z .pointer) (z .start + z .capacity) (λ h. omega arith) (λ h. omega arith),
+)
 
 returns-2 : tie.Need-returns-2
 returns-2 c = let z = c .before .before .args .z in rw (lt-leb (z .start) (z .pointer) (omega arith))
