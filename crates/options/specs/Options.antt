@@ -73,7 +73,10 @@ abbrev pub afterPiece : Options → List ℕ → Options
 afterPiece Bad piece = Bad
 afterPiece (Policy policy) piece = pieceOf piece
 
+-- the pieces in their order, after what stood before them
+abbrev pub afterPieces : Options → List (List ℕ) → Options
+afterPieces before pieces = foldl afterPiece before (skipEmpty pieces)
+
 -- "default remount-ro"
 unfoldable pub optionsOf : List ℕ → Options
-optionsOf text =
-    cond (leb (length text) mostBytes) (foldl afterPiece (Policy RemountRo) (skipEmpty (split text))) Bad
+optionsOf text = cond (leb (length text) mostBytes) (afterPieces (Policy RemountRo) (split text)) Bad
