@@ -1,10 +1,12 @@
 -- The mount options: "up to 255 bytes, pieces split by commas, empty pieces skipped, each `errors=` with `remount-ro`, `zone-ro`,
 -- `zone-offline` or `repair`; the last wins; default remount-ro".
 use Prim.Native.Nat.{ℕ}
+use Prim.Native.Char.{code}
 use mathlib.Core.Bool.{Bool, true, false, cond, _&&_}
-use mathlib.Core.List.{List, [], _∷_, _++_, foldl}
+use mathlib.Core.List.{List, [], _∷_, foldl}
 use lib.ListN.{length}
 use lib.Dec.{leb, eqb}
+use Rattle.options.specs.Text.{ascii}
 use Rattle.types.specs.declared.ErrorPolicy.the-variants.{RemountRo, ZoneRo, ZoneOffline, Repair}
 use Rattle.options.specs.declared.Options.{Options}
 use Rattle.options.specs.declared.Options.the-variants.{Policy, Bad}
@@ -13,9 +15,8 @@ use Rattle.options.specs.declared.Options.the-variants.{Policy, Bad}
 abbrev pub mostBytes : ℕ
 mostBytes = 255
 
--- ","
 abbrev pub comma : ℕ
-comma = 44
+comma = code ","
 
 -- "pieces split by commas": a byte in front of the first piece
 abbrev pub inFront : ℕ → List (List ℕ) → List (List ℕ)
@@ -40,33 +41,13 @@ same [] (y ∷ ys) = false
 same (x ∷ xs) [] = false
 same (x ∷ xs) (y ∷ ys) = eqb x y && same xs ys
 
--- "errors="
-abbrev pub errors : List ℕ
-errors = 101 ∷ 114 ∷ 114 ∷ 111 ∷ 114 ∷ 115 ∷ 61 ∷ []
-
--- "remount-ro"
-abbrev pub remountRo : List ℕ
-remountRo = 114 ∷ 101 ∷ 109 ∷ 111 ∷ 117 ∷ 110 ∷ 116 ∷ 45 ∷ 114 ∷ 111 ∷ []
-
--- "zone-ro"
-abbrev pub zoneRo : List ℕ
-zoneRo = 122 ∷ 111 ∷ 110 ∷ 101 ∷ 45 ∷ 114 ∷ 111 ∷ []
-
--- "zone-offline"
-abbrev pub zoneOffline : List ℕ
-zoneOffline = 122 ∷ 111 ∷ 110 ∷ 101 ∷ 45 ∷ 111 ∷ 102 ∷ 102 ∷ 108 ∷ 105 ∷ 110 ∷ 101 ∷ []
-
--- "repair"
-abbrev pub repair : List ℕ
-repair = 114 ∷ 101 ∷ 112 ∷ 97 ∷ 105 ∷ 114 ∷ []
-
 -- "each `errors=` with `remount-ro`, `zone-ro`, `zone-offline` or `repair`": what a piece asks for
 unfoldable pub pieceOf : List ℕ → Options
 pieceOf piece =
-    cond (same piece (errors ++ remountRo)) (Policy RemountRo)
-    (cond (same piece (errors ++ zoneRo)) (Policy ZoneRo)
-    (cond (same piece (errors ++ zoneOffline)) (Policy ZoneOffline)
-    (cond (same piece (errors ++ repair)) (Policy Repair) Bad)))
+    cond (same piece (ascii "errors=remount-ro")) (Policy RemountRo)
+    (cond (same piece (ascii "errors=zone-ro")) (Policy ZoneRo)
+    (cond (same piece (ascii "errors=zone-offline")) (Policy ZoneOffline)
+    (cond (same piece (ascii "errors=repair")) (Policy Repair) Bad)))
 
 -- "the last wins", where no piece is bad
 abbrev pub afterPiece : Options → List ℕ → Options
