@@ -62,51 +62,67 @@ abbrev pub bit : ℕ → ℕ → Bool
 bit n k = eqb (n / 2 ^ k % 2) 1
 
 -- "Feature bits: 0 aggregate conventional zones, 1 uid, 2 gid, 3 perm"
-abbrev pub aggregates : ℕ → Bool
-aggregates features = bit features 0
+abbrev pub aggregates : List ℕ → Bool
+aggregates b = bit (featuresAt b) 0
 
-abbrev pub hasUid : ℕ → Bool
-hasUid features = bit features 1
+abbrev pub hasUid : List ℕ → Bool
+hasUid b = bit (featuresAt b) 1
 
-abbrev pub hasGid : ℕ → Bool
-hasGid features = bit features 2
+abbrev pub hasGid : List ℕ → Bool
+hasGid b = bit (featuresAt b) 2
 
-abbrev pub hasPerm : ℕ → Bool
-hasPerm features = bit features 3
-
--- "features beyond bit 3"
-abbrev pub beyondPerm : ℕ → Bool
-beyondPerm features = leb (2 ^ 4) features
+abbrev pub hasPerm : List ℕ → Bool
+hasPerm b = bit (featuresAt b) 3
 
 -- THE CHECKS
 
+-- "super block length"
+abbrev pub wrongLength : List ℕ → Bool
+wrongLength b = not (eqb (length b) superLength)
+
+-- "magic"
+abbrev pub wrongMagic : List ℕ → Bool
+wrongMagic b = not (eqb (magicAt b) magic)
+
+-- "checksum"
+abbrev pub wrongChecksum : List ℕ → Bool
+wrongChecksum b = not (eqb (checksumAt b) (superblockCrc b))
+
+-- "features beyond bit 3"
+abbrev pub unknownFeatures : List ℕ → Bool
+unknownFeatures b = leb (2 ^ 4) (featuresAt b)
+
 -- "in use and 0xFFFFFFFF"
-abbrev pub noId : Bool → ℕ → Bool
-noId used id = used && eqb id 0xFFFFFFFF
+abbrev pub nobody : Bool → ℕ → Bool
+nobody used id = used && eqb id 0xFFFFFFFF
 
 -- "uid or gid in use and 0xFFFFFFFF"
-abbrev pub noOwner : ℕ → ℕ → ℕ → Bool
-noOwner features uid gid = noId (hasUid features) uid || noId (hasGid features) gid
+abbrev pub noOwner : List ℕ → Bool
+noOwner b = nobody (hasUid b) (uidAt b) || nobody (hasGid b) (gidAt b)
 
 -- a byte isn't zero
 unfoldable pub nonzero : List ℕ → Bool
 nonzero [] = false
 nonzero (x ∷ xs) = not (eqb x 0) || nonzero xs
 
--- a check: refused where it is so, and else what the next checks say
+-- "nonzero tail"
+abbrev pub nonzeroTail : List ℕ → Bool
+nonzeroTail b = nonzero (tailAt b)
+
+-- a check that refuses, or else leaves the answer to the next ones
 unfoldable pub refuse : Bool → Refusal → SuperCheck → SuperCheck
 refuse true refusal next = Bad refusal
 refuse false refusal next = next
 
--- "super block length, magic, checksum", "features beyond bit 3; uid or gid in use and 0xFFFFFFFF; nonzero tail"
+-- "super block length, magic, checksum", "features beyond bit 3; uid or gid in use and 0xFFFFFFFF; nonzero tail", in this order
 unfoldable pub superCheck : List ℕ → SuperCheck
 superCheck b =
-    refuse (not (eqb (length b) superLength)) SuperLength
-    (refuse (not (eqb (magicAt b) magic)) SuperMagic
-    (refuse (not (eqb (checksumAt b) (superblockCrc b))) SuperChecksum
-    (refuse (beyondPerm (featuresAt b)) SuperFeatures
-    (refuse (noOwner (featuresAt b) (uidAt b) (gidAt b)) SuperOwner
-    (refuse (nonzero (tailAt b)) SuperTail Good)))))
+    refuse (wrongLength b) SuperLength
+    (refuse (wrongMagic b) SuperMagic
+    (refuse (wrongChecksum b) SuperChecksum
+    (refuse (unknownFeatures b) SuperFeatures
+    (refuse (noOwner b) SuperOwner
+    (refuse (nonzeroTail b) SuperTail Good)))))
 
 -- WHAT IT GIVES
 
@@ -114,17 +130,17 @@ superCheck b =
 abbrev pub idOf : Bool → ℕ → ℕ
 idOf used id = cond used id 0
 
--- "mode 0640", in octal digits. "With bit 3, the mode is perm's low nine bits"
+-- "mode 0640". "With bit 3, the mode is perm's low nine bits"
 abbrev pub modeOf : Bool → ℕ → ℕ
-modeOf used perm = cond used (perm % 2 ^ 9) (6 * 64 + 4 * 8)
+modeOf used perm = cond used (perm % 2 ^ 9) 0o640
 
 unfoldable pub fieldsOf : List ℕ → SuperBlock
 fieldsOf b =
     record {
-      aggregate = aggregates (featuresAt b);
-      owner = idOf (hasUid (featuresAt b)) (uidAt b);
-      group = idOf (hasGid (featuresAt b)) (gidAt b);
-      mode = modeOf (hasPerm (featuresAt b)) (permAt b);
+      aggregate = aggregates b;
+      owner = idOf (hasUid b) (uidAt b);
+      group = idOf (hasGid b) (gidAt b);
+      mode = modeOf (hasPerm b) (permAt b);
       uuid = uuidAt b;
     }
 

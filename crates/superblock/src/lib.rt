@@ -2,7 +2,7 @@
 ghost use mathlib.Core.Path.{_≡_};
 ghost use Prim.Native.Nat.{_<_, _≤_};
 ghost use lib.ListN.{length, drop};
-ghost use Rattle.superblock.specs.SuperBlock.{bit, noOwner, nonzero, idOf, modeOf, uuidAt, fieldsOf, refusedFor, superRead};
+ghost use Rattle.superblock.specs.SuperBlock.{featuresAt, uuidAt, bit, wrongMagic, wrongChecksum, unknownFeatures, noOwner, nonzero, idOf, modeOf, fieldsOf, refusedFor, superRead};
 use types::Refusal;
 
 // What a good super block gives: whether conventional zones are aggregated, whose files they are, with which mode, and the
@@ -27,18 +27,42 @@ pub struct SuperRead {
 }
 
 // Bit k of the features is set.
-fn bit_of(features: u64, k: u64) -> bool
-    requires { ⌜ k < 64 ⌝ }
-    ensures { λ r. ⌜ r ≡ bit features k ⌝ }
+fn has(b: &[u8], k: u64) -> bool
+    requires { ⌜ (96 ≤ length (now b)) × (k < 64) ⌝ }
+    ensures { λ r. ⌜ r ≡ bit (featuresAt (now (b .entry))) k ⌝ }
 {
+    let features = wire::u64_at(b, 88);
     (features >> k) % 2 == 1
 }
 
-// A uid or gid that is in use and names nobody.
-fn no_owner(features: u64, uid: u32, gid: u32) -> bool
-    ensures { λ r. ⌜ r ≡ noOwner features uid gid ⌝ }
+fn wrong_magic(b: &[u8]) -> bool
+    requires { ⌜ 4 ≤ length (now b) ⌝ }
+    ensures { λ r. ⌜ r ≡ wrongMagic (now (b .entry)) ⌝ }
 {
-    (bit_of(features, 1) & (uid == 0xFFFF_FFFF)) | (bit_of(features, 2) & (gid == 0xFFFF_FFFF))
+    wire::u32_at(b, 0) != 0x5A4F_4653
+}
+
+fn wrong_checksum(b: &[u8]) -> bool
+    requires { ⌜ 8 ≤ length (now b) ⌝ }
+    ensures { λ r. ⌜ r ≡ wrongChecksum (now (b .entry)) ⌝ }
+{
+    wire::u32_at(b, 4) != crc32::superblock_checksum(b)
+}
+
+fn unknown_features(b: &[u8]) -> bool
+    requires { ⌜ 96 ≤ length (now b) ⌝ }
+    ensures { λ r. ⌜ r ≡ unknownFeatures (now (b .entry)) ⌝ }
+{
+    wire::u64_at(b, 88) >= 16
+}
+
+// A uid or gid is in use and names nobody.
+fn no_owner(b: &[u8]) -> bool
+    requires { ⌜ 104 ≤ length (now b) ⌝ }
+    ensures { λ r. ⌜ r ≡ noOwner (now (b .entry)) ⌝ }
+{
+    (has(b, 1) & (wire::u32_at(b, 96) == 0xFFFF_FFFF))
+        | (has(b, 2) & (wire::u32_at(b, 100) == 0xFFFF_FFFF))
 }
 
 // A byte from `from` on isn't zero.
@@ -82,14 +106,10 @@ fn fields_of(b: &[u8]) -> SuperBlock
     requires { ⌜ 108 ≤ length (now b) ⌝ }
     ensures { λ r. ⌜ r ≡ fieldsOf (now (b .entry)) ⌝ }
 {
-    let features = wire::u64_at(b, 88);
-    let uid = wire::u32_at(b, 96);
-    let gid = wire::u32_at(b, 100);
-    let perm = wire::u32_at(b, 104);
-    let aggregate = bit_of(features, 0);
-    let owner = id_of(bit_of(features, 1), uid);
-    let group = id_of(bit_of(features, 2), gid);
-    let mode = mode_of(bit_of(features, 3), perm);
+    let aggregate = has(b, 0);
+    let owner = id_of(has(b, 1), wire::u32_at(b, 96));
+    let group = id_of(has(b, 2), wire::u32_at(b, 100));
+    let mode = mode_of(has(b, 3), wire::u32_at(b, 104));
     let uuid = uuid_of(b);
     SuperBlock {
         aggregate,
@@ -124,17 +144,16 @@ pub fn read_superblock(b: &[u8]) -> SuperRead
     if b.len() != 4096 {
         return refused(Refusal::SuperLength);
     }
-    if wire::u32_at(b, 0) != 0x5A4F_4653 {
+    if wrong_magic(b) {
         return refused(Refusal::SuperMagic);
     }
-    if wire::u32_at(b, 4) != crc32::superblock_checksum(b) {
+    if wrong_checksum(b) {
         return refused(Refusal::SuperChecksum);
     }
-    let features = wire::u64_at(b, 88);
-    if features >= 16 {
+    if unknown_features(b) {
         return refused(Refusal::SuperFeatures);
     }
-    if no_owner(features, wire::u32_at(b, 96), wire::u32_at(b, 100)) {
+    if no_owner(b) {
         return refused(Refusal::SuperOwner);
     }
     if nonzero_from(b, 108) {

@@ -60,7 +60,7 @@ loop-less : tie.Need-loop-less Inv-loop μ-loop
 loop-less c = search needs
 
 loop-again : tie.Need-loop-again Inv-loop μ-loop
-loop-again c = 
+loop-again c =
     let text = c .before .before .before .before .before .before .before .before .args .text .now in
     let l = c .before .before .before .before .before .loop in
     let p = c .before .before .piece-length in
@@ -69,7 +69,7 @@ loop-again c =
 
 returns-2 : tie.Need-returns-2 Inv-loop μ-loop
 unfolding optionsOf skipEmpty
-returns-2 c = 
+returns-2 c =
     let text = c .before .before .before .before .args .text .now in
     let l = c .before .loop in
     let few : length text ≤ 255 = l .inv .0 in

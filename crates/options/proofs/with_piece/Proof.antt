@@ -17,12 +17,12 @@ enum-told-2 : tie.Need-enum-told-2
 enum-told-2 c = search needs
 
 returns-2 : tie.Need-returns-2
-returns-2 c = 
+returns-2 c =
     let a = c .before .before .before .before .before .args in
     rw (full-piece (a .so-far) (a .piece .now) (c .before .before .before .if1 .left), c .before .enum-told .given .1) (c .piece-of .ensures)
 
 returns-3 : tie.Need-returns-3
-returns-3 c = 
+returns-3 c =
     let a = c .before .before .before .before .args in
     rw (full-piece (a .so-far) (a .piece .now) (c .before .before .if1 .left), c .enum-told2 .given .1)
 
