@@ -10,10 +10,16 @@ use lib.ListN.{length, drop}
 use lib.Dec.{ltb}
 use Rattle.types.specs.Blocks.{blockSectors, goodBlock}
 use Rattle.types.specs.declared.Refusal.{Refusal}
+use Rattle.types.specs.declared.ErrorPolicy.{ErrorPolicy}
+use Rattle.types.specs.declared.Mount.{Mount}
 use Rattle.types.specs.declared.MountAnswer.{MountAnswer}
 use Rattle.types.specs.declared.MountAnswer.the-variants.{Refused, Mounted}
 use Rattle.types.proofs.Blocks.{IsBlock, small, large, is-block}
 use Rattle.types.proofs.Tests.{or-left, or-right}
+use Rattle.table.specs.Rows.{rowsLent}
+use Rattle.superblock.specs.declared.SuperRead.{SuperRead}
+use Rattle.superblock.specs.SuperBlock.{superRead}
+use Rattle.options.specs.Options.{optionsOf}
 use Rattle.superblock.specs.declared.SuperCheck.{SuperCheck}
 use Rattle.superblock.specs.declared.SuperCheck.the-variants as super
 use Rattle.options.specs.declared.Options.{Options}
@@ -24,7 +30,7 @@ use Rattle.zones.specs.Report.{zonesOf, reportCheck}
 use Rattle.zones.specs.Told.{Framed, AllSound}
 use Rattle.zones.proofs.Laws.{GoodReport, report-told, framed, all-sound, sound-next, zones-next}
 use Rattle.mount.specs.Files.{cnvRows, seqRows}
-use Rattle.mount.specs.Mount.{refuse, checkSuper, checkOptions, checkReport, fileZones, tooFew, fitAnswer, reportAnswer, answerOf, policyOf, mountAnswer, mountOutcome}
+use Rattle.mount.specs.Mount.{refuse, checkSuper, checkOptions, checkReport, fileZones, tooFew, fitAnswer, reportAnswer, answerOf, policyOf, mountOf, tableAfter, mountAnswer, mountOutcome}
 use Rattle.mount.specs.Walk.{Fits}
 
 -- a block has at least one sector
@@ -116,3 +122,17 @@ module _ (block : ℕ) (check : SuperCheck) (parsed : Options) (aggregate : Bool
       let a = answer-told h in
       let good = report-sound (blockSectors block) b (a .report) in
       record { frame = good .0; sound = good .1; cnvs = omega (arith, a .cnvs, a .cnvFit); seqs = omega (arith, a .seqs, a .seqFit) }
+
+-- THE OUTCOME, from its parts as the code finds them
+pub outcome-is : (block : ℕ) (sb text b cnv seq : List ℕ) (read : SuperRead) (parsed : Options) (cnvs seqs : ℕ) (answer : MountAnswer) (policy : ErrorPolicy) (mount : Mount) (cnv′ seq′ : List ℕ)
+    → read ≡ superRead sb → parsed ≡ optionsOf text → cnvs ≡ rowsLent (length cnv) → seqs ≡ rowsLent (length seq)
+    → answer ≡ answerOf block (read .check) parsed (read .fields .aggregate) b cnvs seqs
+    → policy ≡ policyOf parsed → mount ≡ mountOf answer block (read .fields) policy
+    → cnv′ ≡ tableAfter answer cnv (cnvRows (read .fields .aggregate) (fileZones b))
+    → seq′ ≡ tableAfter answer seq (seqRows (fileZones b))
+    → (answer ≡ mountOutcome block sb text b cnv seq .answer) × (mount ≡ mountOutcome block sb text b cnv seq .mount)
+    × (cnv′ ≡ mountOutcome block sb text b cnv seq .cnv) × (seq′ ≡ mountOutcome block sb text b cnv seq .seq)
+unfolding mountOutcome mountAnswer
+outcome-is block sb text b cnv seq read parsed cnvs seqs answer policy mount cnv′ seq′ r p c s a q m t u =
+    let answered : answer ≡ mountAnswer block sb text b cnv seq = cc in
+    (answered, cc, cc, cc)

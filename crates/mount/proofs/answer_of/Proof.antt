@@ -4,25 +4,17 @@ use borrow.Author.Tests.{not-false}
 use borrow.Author.Needs.{needs}
 use Rattle.mount.proofs.answer_of.Statement.{statement}
 use Rattle.mount.proofs.answer_of.Tie as tie
-use Rattle.mount.proofs.answer_of.Reads as reads
-use Rattle.mount.proofs.answer_of.Lts as lts
-use Rattle.mount.proofs.report_answer.Reads as report-answer-reads
-use Rattle.types.proofs.good_block.Reads as good-block-reads
 
--- src/lib.rt:248:9
 good-block-requires : tie.Need-good-block-requires
 good-block-requires c κs = search needs
 
--- src/lib.rt:249:9
 returns : tie.Need-returns
 unfolding answerOf refuse
 returns c = rw (← c .before .good-block .ensures, c .if1 .taken)
 
--- src/lib.rt:251:28
 enum-known-check : tie.Need-enum-known-check
 enum-known-check c = search needs
 
--- src/lib.rt:252:9
 returns-2 : tie.Need-returns-2
 unfolding answerOf refuse checkSuper
 returns-2 c = rw (← c .before .before .before .before .good-block .ensures, c .before .before .before .if1 .left, c .before .check .given .1)
@@ -30,11 +22,9 @@ returns-2 c = rw (← c .before .before .before .before .good-block .ensures, c 
 enum-told : tie.Need-enum-told
 enum-told c = search needs
 
--- src/lib.rt:255:37
 enum-told-2 : tie.Need-enum-told-2
 enum-told-2 c = search needs
 
--- src/lib.rt:255:9
 returns-3 : tie.Need-returns-3
 unfolding answerOf refuse checkSuper checkOptions
 returns-3 c = rw (← c .before .before .before .before .before .good-block .ensures, c .before .before .before .before .if1 .left, c .before .before .enum-told .given .1, c .enum-told2 .given .1)
@@ -42,11 +32,9 @@ returns-3 c = rw (← c .before .before .before .before .before .good-block .ens
 enum-told-3 : tie.Need-enum-told-3
 enum-told-3 c = search needs
 
--- src/lib.rt:257:5
 report-answer-requires : tie.Need-report-answer-requires
 report-answer-requires c κs = sym (c .before .before .before .before .before .good-block .ensures) ∙ not-false _ (c .before .before .before .before .if1 .left)
 
--- src/lib.rt:237:1
 returns-4 : tie.Need-returns-4
 unfolding answerOf refuse checkSuper checkOptions
 returns-4 c = rw (c .report-answer .ensures, ← c .before .before .before .before .before .before .good-block .ensures, c .before .before .before .before .before .if1 .left, c .before .before .before .enum-told .given .1, c .before .enum-told3 .given .1)

@@ -2,40 +2,29 @@ use Rattle.mount.specs.Mount.{tableAfter}
 use borrow.Author.Needs.{needs}
 use Rattle.mount.proofs.fill_tables.Statement.{statement}
 use Rattle.mount.proofs.fill_tables.Tie as tie
-use Rattle.mount.proofs.fill_tables.Reads as reads
-use Rattle.mount.proofs.fill_tables.Lts as lts
-use Rattle.mount.proofs.write_cnv.Reads as write-cnv-reads
-use Rattle.mount.proofs.write_seq.Reads as write-seq-reads
 
--- src/lib.rt:267:33
 enum-told : tie.Need-enum-told
 enum-told c = search needs
 
--- src/lib.rt:267:9
 write-cnv-requires : tie.Need-write-cnv-requires
 write-cnv-requires c κs = let f = c .before .before .before .before .before .before .pre _ _ (c .before .enum-told .given .1) in (f .frame, f .sound, f .cnvs)
 
--- src/lib.rt:268:9
 write-seq-requires : tie.Need-write-seq-requires
 write-seq-requires c κs = let f = c .before .before .before .before .before .before .before .before .before .before .pre _ _ (c .before .before .before .before .before .enum-told .given .1) in (f .frame, f .sound, f .seqs)
 
 enum-told-2 : tie.Need-enum-told-2
 enum-told-2 c = search needs
 
--- src/lib.rt:261:1
 same-length : tie.Need-same-length
 same-length c = search needs
 
--- src/lib.rt:261:1
 same-length-2 : tie.Need-same-length-2
 same-length-2 c = search needs
 
--- src/lib.rt:261:1
 returns : tie.Need-returns
 unfolding tableAfter
 returns c = rw (c .before .before .before .before .before .before .before .before .enum-told .given .1) (c .before .before .before .before .before .before .write-cnv .ensures, c .before .before .write-seq .ensures)
 
--- src/lib.rt:261:1
 returns-2 : tie.Need-returns-2
 unfolding tableAfter
 returns-2 c = rw (c .enum-told2 .given .1) (search needs)

@@ -2,33 +2,23 @@ use Rattle.mount.specs.Mount.{fitAnswer, refuse}
 use borrow.Author.Needs.{needs}
 use Rattle.mount.proofs.fit_answer.Statement.{statement}
 use Rattle.mount.proofs.fit_answer.Tie as tie
-use Rattle.mount.proofs.fit_answer.Reads as reads
-use Rattle.mount.proofs.fit_answer.Lts as lts
-use Rattle.mount.proofs.cnv_files.Reads as cnv-files-reads
-use Rattle.mount.proofs.seq_files.Reads as seq-files-reads
 
--- src/lib.rt:214:9
 cnv-files-requires : tie.Need-cnv-files-requires
 cnv-files-requires c κs = search needs
 
--- src/lib.rt:215:9
 seq-files-requires : tie.Need-seq-files-requires
 seq-files-requires c κs = search needs
 
--- src/lib.rt:219:30
 cast-t12 : tie.Need-cast-t12
 cast-t12 c = search needs
 
--- src/lib.rt:219:40
 cast-t13 : tie.Need-cast-t13
 cast-t13 c = search needs
 
--- src/lib.rt:210:1
 returns : tie.Need-returns
 unfolding fitAnswer refuse
 returns c = rw (← c .before .before .cnv-files .ensures .0, ← c .before .seq-files .ensures .0, c .if1 .taken)
 
--- src/lib.rt:210:1
 returns-2 : tie.Need-returns-2
 unfolding fitAnswer refuse
 returns-2 c = rw (← c .before .before .cnv-files .ensures .0, ← c .before .seq-files .ensures .0, c .if1 .left)

@@ -1,63 +1,48 @@
-use Rattle.mount.proofs.Mounted.{answer-fits}
-use Rattle.mount.specs.Mount.{mountAnswer, mountOutcome}
+use Rattle.mount.proofs.Mounted.{answer-fits, outcome-is}
 use mathlib.Core.Path.{_≡_, _∙_, sym}
 use borrow.Author.Needs.{needs}
 use Rattle.mount.proofs.mount.Statement.{statement}
 use Rattle.mount.proofs.mount.Tie as tie
-use Rattle.mount.proofs.mount.Reads as reads
-use Rattle.mount.proofs.mount.Lts as lts
-use Rattle.mount.proofs.answer_of.Reads as answer-of-reads
-use Rattle.mount.proofs.fill_tables.Reads as fill-tables-reads
-use Rattle.mount.proofs.mount_of.Reads as mount-of-reads
-use Rattle.mount.proofs.policy_of.Reads as policy-of-reads
-use Rattle.options.proofs.read_options.Reads as read-options-reads
-use Rattle.superblock.proofs.read_superblock.Reads as read-superblock-reads
-use Rattle.table.proofs.rows_lent.Reads as rows-lent-reads
 
--- src/lib.rt:323:9
 read-superblock-requires : tie.Need-read-superblock-requires
 read-superblock-requires c κs = search needs
 
--- src/lib.rt:327:9
 read-options-requires : tie.Need-read-options-requires
 read-options-requires c κs = search needs
 
--- src/lib.rt:328:9
 rows-lent-requires : tie.Need-rows-lent-requires
 rows-lent-requires c κs = search needs
 
--- src/lib.rt:329:9
 rows-lent-requires-2 : tie.Need-rows-lent-requires-2
 rows-lent-requires-2 c κs = search needs
 
--- src/lib.rt:330:9
 answer-of-requires : tie.Need-answer-of-requires
 answer-of-requires c κs = search needs
 
--- src/lib.rt:331:5
 fill-tables-requires : tie.Need-fill-tables-requires
-fill-tables-requires c κs = λ k s e. ?
+fill-tables-requires c κs = λ k s e.
+    let f = answer-fits _ _ _ _ _ _ _ k s (sym (c .before .before .answer-of .ensures) ∙ e) in
+    record { frame = f .frame; sound = f .sound; cnvs = rw (c .before .before .before .before .rows-lent .ensures) at (f .cnvs); seqs = rw (c .before .before .before .rows-lent2 .ensures) at (f .seqs) }
 
--- src/lib.rt:332:49
 policy-of-requires : tie.Need-policy-of-requires
 policy-of-requires c κs = search needs
 
--- src/lib.rt:332:9
 mount-of-requires : tie.Need-mount-of-requires
 mount-of-requires c κs = search needs
 
--- src/lib.rt:310:1
 same-length : tie.Need-same-length
 same-length c = search needs
 
--- src/lib.rt:310:1
 same-length-2 : tie.Need-same-length-2
 same-length-2 c = search needs
 
--- src/lib.rt:310:1
 returns : tie.Need-returns
-unfolding mountAnswer mountOutcome
-returns c = ?
+returns c = let a = c .before .before .before .before .before .before .before .before .before .before .before .before .before .before .before .before .before .before .before .before .args in
+    let o = outcome-is (a .block) (a .superblock .now) (a .options .now) (a .report .now) (a .cnv .now) (a .seq .now)
+    (c .before .before .before .before .before .before .before .before .before .before .before .before .before .before .read-superblock .result) (c .before .before .before .before .before .before .before .before .before .before .before .before .read-options .result) (c .before .before .before .before .before .before .before .before .before .before .before .rows-lent .result) (c .before .before .before .before .before .before .before .before .before .before .rows-lent2 .result) (c .before .before .before .before .before .before .before .before .before .answer-of .result) (c .before .policy-of .result) (c .mount-of .result) _ _
+    (c .before .before .before .before .before .before .before .before .before .before .before .before .before .before .read-superblock .ensures) (c .before .before .before .before .before .before .before .before .before .before .before .before .read-options .ensures) (c .before .before .before .before .before .before .before .before .before .before .before .rows-lent .ensures) (c .before .before .before .before .before .before .before .before .before .before .rows-lent2 .ensures) (c .before .before .before .before .before .before .before .before .before .answer-of .ensures) (c .before .policy-of .ensures) (c .mount-of .ensures)
+    (c .before .before .before .before .before .before .fill-tables .ensures .0) (c .before .before .before .before .before .before .fill-tables .ensures .1) in
+    (o .0, (o .1, (o .2, o .3)))
 
 pub mount-spec : {M : Type 1} → statement M
 mount-spec =

@@ -5,27 +5,19 @@ use native.Mathlib.Omega.{arith}
 use borrow.Author.Needs.{needs}
 use Rattle.mount.proofs.put_if.Statement.{statement}
 use Rattle.mount.proofs.put_if.Tie as tie
-use Rattle.mount.proofs.put_if.Reads as reads
-use Rattle.mount.proofs.put_if.Lts as lts
-use Rattle.table.proofs.put_row.Reads as put-row-reads
 
--- src/lib.rt:131:9
 put-row-requires : tie.Need-put-row-requires
 put-row-requires c κs = omega (arith, ap (λ y. cond {A = ℕ} y 1 0) (c .before .if1 .taken))
 
--- src/lib.rt:132:16
 add-result : tie.Need-add-result
 add-result c = search needs
 
--- src/lib.rt:132:9
 same-length : tie.Need-same-length
 same-length c = search needs
 
--- src/lib.rt:132:9
 returns : tie.Need-returns
 returns c = (rw (c .before .before .before .before .if1 .taken), rw (c .before .before .before .before .if1 .taken, c .before .before .put-row .ensures))
 
--- src/lib.rt:125:1
 returns-2 : tie.Need-returns-2
 returns-2 c = rw (c .if1 .left) (omega arith, refl)
 

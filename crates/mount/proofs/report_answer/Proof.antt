@@ -5,38 +5,26 @@ use native.Mathlib.Omega.{arith}
 use borrow.Author.Needs.{needs}
 use Rattle.mount.proofs.report_answer.Statement.{statement}
 use Rattle.mount.proofs.report_answer.Tie as tie
-use Rattle.mount.proofs.report_answer.Reads as reads
-use Rattle.mount.proofs.report_answer.Lts as lts
-use Rattle.mount.proofs.fit_answer.Reads as fit-answer-reads
-use Rattle.zones.proofs.block_sectors.Reads as block-sectors-reads
-use Rattle.zones.proofs.check_report.Reads as check-report-reads
 
--- src/lib.rt:228:40
 block-sectors-requires : tie.Need-block-sectors-requires
 block-sectors-requires c κs = search needs
 
--- src/lib.rt:228:9
 check-report-requires : tie.Need-check-report-requires
 check-report-requires c κs = omega (arith, block-positive (c .before .before .args .block) (c .before .before .pre), c .block-sectors .ensures)
 
--- src/lib.rt:230:30
 enum-told : tie.Need-enum-told
 enum-told c = search needs
 
--- src/lib.rt:230:30
 fit-answer-requires : tie.Need-fit-answer-requires
 fit-answer-requires c κs = report-sound _ (c .before .before .before .before .before .args .b .now) (sym (c .before .before .check-report .ensures) ∙ c .enum-told .given .1)
 
--- src/lib.rt:231:26
 enum-known-check : tie.Need-enum-known-check
 enum-known-check c = search needs
 
--- src/lib.rt:224:1
 returns : tie.Need-returns
 unfolding reportAnswer checkReport
 returns c = rw (c .fit-answer .ensures, ← c .before .before .before .before .block-sectors .ensures, ← c .before .before .before .check-report .ensures, c .before .enum-told .given .1)
 
--- src/lib.rt:224:1
 returns-2 : tie.Need-returns-2
 unfolding reportAnswer checkReport
 returns-2 c = rw (← c .before .before .before .before .block-sectors .ensures, ← c .before .before .before .check-report .ensures, c .before .check .given .1)

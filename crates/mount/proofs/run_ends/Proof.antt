@@ -1,15 +1,10 @@
 use borrow.Author.Needs.{needs}
 use Rattle.mount.proofs.run_ends.Statement.{statement}
 use Rattle.mount.proofs.run_ends.Tie as tie
-use Rattle.mount.proofs.run_ends.Reads as reads
-use Rattle.mount.proofs.run_ends.Lts as lts
-use Rattle.zones.proofs.is_conventional.Reads as is-conventional-reads
 
--- src/lib.rt:105:9
 is-conventional-requires : tie.Need-is-conventional-requires
 is-conventional-requires c κs = search needs
 
--- src/lib.rt:102:1
 returns : tie.Need-returns
 returns c = rw (c .before .is-conventional .ensures)
 
