@@ -6,17 +6,20 @@ use mathlib.Core.Bool.{Bool, true, false, not, _||_}
 use Prim.Native.Nat.{ℕ, _+_, _≤_, _<_}
 use native.Mathlib.Omega.{arith}
 use borrow.Author.Tests.{ltb-false, not-false, le-ltb}
-use lib.ListN.{length, drop}
+use lib.ListN.{length, drop, getD}
 use lib.Dec.{ltb}
 use Rattle.types.specs.Blocks.{blockSectors, goodBlock}
 use Rattle.types.specs.declared.Refusal.{Refusal}
 use Rattle.types.specs.declared.ErrorPolicy.{ErrorPolicy}
 use Rattle.types.specs.declared.Mount.{Mount}
 use Rattle.types.specs.declared.MountAnswer.{MountAnswer}
+use Rattle.types.specs.declared.Row.{Row}
+use Rattle.types.specs.Mounts.{emptyMount}
 use Rattle.types.specs.declared.MountAnswer.the-variants.{Refused, Mounted}
 use Rattle.types.proofs.Blocks.{IsBlock, small, large, is-block}
 use Rattle.types.proofs.Tests.{or-left, or-right}
-use Rattle.table.specs.Rows.{rowsLent}
+use Rattle.table.specs.declared.Slot.the-variants.{Good}
+use Rattle.table.specs.Rows.{rowsLent, rowAt}
 use Rattle.superblock.specs.declared.SuperRead.{SuperRead}
 use Rattle.superblock.specs.SuperBlock.{superRead}
 use Rattle.options.specs.Options.{optionsOf}
@@ -30,8 +33,10 @@ use Rattle.zones.specs.Report.{zonesOf, reportCheck}
 use Rattle.zones.specs.Told.{Framed, AllSound}
 use Rattle.zones.proofs.Laws.{GoodReport, report-told, framed, all-sound, sound-next, zones-next}
 use Rattle.mount.specs.Files.{cnvRows, seqRows}
-use Rattle.mount.specs.Mount.{refuse, checkSuper, checkOptions, checkReport, fileZones, tooFew, fitAnswer, reportAnswer, answerOf, policyOf, mountOf, tableAfter, mountAnswer, mountOutcome}
+use Rattle.mount.specs.Mount.{refuse, checkSuper, checkOptions, checkReport, fileZones, tooFew, fitAnswer, reportAnswer, answerOf, policyOf, mountOf, tableAfter, aggregated, mountAnswer, mountOutcome}
+use Rattle.mount.specs.Fill.{fill}
 use Rattle.mount.specs.Walk.{Fits}
+use Rattle.mount.proofs.Tables.{filled-row, fill-length}
 
 -- a block has at least one sector
 pub block-positive : (block : ℕ) → goodBlock block ≡ true → 0 < blockSectors block
@@ -136,3 +141,70 @@ unfolding mountOutcome mountAnswer
 outcome-is block sb text b cnv seq read parsed cnvs seqs answer policy mount cnv′ seq′ r p c s a q m t u =
     let answered : answer ≡ mountAnswer block sb text b cnv seq = cc in
     (answered, cc, cc, cc)
+
+-- WHAT A MOUNT LEAVES
+
+module _ (block : ℕ) (sb text b cnv seq : List ℕ) where
+  -- a refused one: everything as before
+  pub refused-leaves : (r : Refusal) → mountOutcome block sb text b cnv seq .answer ≡ Refused r
+      → (mountOutcome block sb text b cnv seq .mount ≡ emptyMount) × (mountOutcome block sb text b cnv seq .cnv ≡ cnv) × (mountOutcome block sb text b cnv seq .seq ≡ seq)
+  unfolding mountOutcome mountOf tableAfter
+  refused-leaves r h = rw h (refl, refl, refl)
+
+  module _ (c s : ℕ) (answered : mountOutcome block sb text b cnv seq .answer ≡ Mounted c s) where
+    pub mounted-told : Accepted block (superRead sb .check) (optionsOf text) (aggregated sb) b (rowsLent (length cnv)) (rowsLent (length seq)) c s
+    unfolding mountOutcome mountAnswer
+    mounted-told = answer-told block _ _ _ b _ _ c s answered
+
+    -- its report: a good header, and every zone good where the one before it ended
+    pub mounted-report : GoodReport (blockSectors block) b
+    mounted-report = report-told (blockSectors block) b (mounted-told .report)
+
+    pub mounted-block : IsBlock block
+    mounted-block = is-block block (mounted-told .unit)
+
+    pub mounted-cnv : mountOutcome block sb text b cnv seq .cnv ≡ fill cnv (cnvRows (aggregated sb) (fileZones b))
+    unfolding mountOutcome tableAfter
+    mounted-cnv = rw answered
+
+    pub mounted-seq : mountOutcome block sb text b cnv seq .seq ≡ fill seq (seqRows (fileZones b))
+    unfolding mountOutcome tableAfter
+    mounted-seq = rw answered
+
+    -- row n of each table is row n of the list
+    pub mounted-cnv-row : (n : ℕ) (d : Row) → n < c → rowAt (mountOutcome block sb text b cnv seq .cnv) n ≡ Good (getD (cnvRows (aggregated sb) (fileZones b)) n d)
+    mounted-cnv-row n d h =
+        let t = mounted-told in
+        ap (λ (u : List ℕ). rowAt u n) mounted-cnv
+        ∙ filled-row cnv _ n d (omega (arith, t .cnvs)) (omega (arith, t .cnvs, t .cnvFit))
+
+    pub mounted-seq-row : (n : ℕ) (d : Row) → n < s → rowAt (mountOutcome block sb text b cnv seq .seq) n ≡ Good (getD (seqRows (fileZones b)) n d)
+    mounted-seq-row n d h =
+        let t = mounted-told in
+        ap (λ (u : List ℕ). rowAt u n) mounted-seq
+        ∙ filled-row seq _ n d (omega (arith, t .seqs)) (omega (arith, t .seqs, t .seqFit))
+
+  -- the tables stay as long
+  pub cnv-length : length (mountOutcome block sb text b cnv seq .cnv) ≡ length cnv
+  cnv-length = by (mountOutcome block sb text b cnv seq .answer) refl
+    where
+      by : (a : MountAnswer) → mountOutcome block sb text b cnv seq .answer ≡ a → length (mountOutcome block sb text b cnv seq .cnv) ≡ length cnv
+      by (Refused r) h = ap length (refused-leaves r h .1)
+      by (Mounted c s) h =
+          let t = mounted-told c s h in
+          ap length (mounted-cnv c s h) ∙ fill-length cnv _ (omega (arith, t .cnvs, t .cnvFit))
+
+  pub seq-length : length (mountOutcome block sb text b cnv seq .seq) ≡ length seq
+  seq-length = by (mountOutcome block sb text b cnv seq .answer) refl
+    where
+      by : (a : MountAnswer) → mountOutcome block sb text b cnv seq .answer ≡ a → length (mountOutcome block sb text b cnv seq .seq) ≡ length seq
+      by (Refused r) h = ap length (refused-leaves r h .2)
+      by (Mounted c s) h =
+          let t = mounted-told c s h in
+          ap length (mounted-seq c s h) ∙ fill-length seq _ (omega (arith, t .seqs, t .seqFit))
+
+  -- a mount is answered 0 where all this is so
+  pub mounted-given : (c s : ℕ) → Accepted block (superRead sb .check) (optionsOf text) (aggregated sb) b (rowsLent (length cnv)) (rowsLent (length seq)) c s
+      → mountOutcome block sb text b cnv seq .answer ≡ Mounted c s
+  unfolding mountOutcome mountAnswer
+  mounted-given c s a = answer-given block _ _ _ b _ _ c s a
