@@ -6,6 +6,22 @@ use superblock::SuperBlock;
 use superblock::SuperCheck;
 use types::Refusal;
 
+// Words of the vectors' super blocks: uid 1000 and gid 100, or all ones in the place of one or both; perm 0o100604, and the tail's
+// first byte after it.
+const IDS: u64 = 0x00000064_000003e8;
+
+const NO_UID: u64 = 0x00000064_ffffffff;
+
+const NO_GID: u64 = 0xffffffff_000003e8;
+
+const NO_IDS: u64 = 0xffffffff_ffffffff;
+
+const PERM: u64 = 0x8184;
+
+const PERM_AND_TAIL: u64 = 0x00000001_00008184;
+
+const TOP_BIT: u64 = 0x80000000_00000000;
+
 // Byte k of a word.
 fn byte_of(word: u64, k: u64) -> u8
     requires { ⌜ k < 8 ⌝ }
@@ -119,139 +135,36 @@ fn options_vector(text: &[u8]) {
     show_options(text, text);
 }
 
-fn super_blocks() {
+// Every field that is in use, and each that is not.
+fn good_blocks() {
+    super_vector(b"all features", 0x35f56c3d_5a4f4653, 15, IDS, PERM, 0);
+    super_vector(b"no feature", 0xba63adfd_5a4f4653, 0, IDS, PERM, 0);
+    super_vector(b"uid alone", 0x4070142e_5a4f4653, 2, NO_GID, PERM, 0);
+    super_vector(b"gid alone", 0x37a23f82_5a4f4653, 4, NO_UID, PERM, 0);
+    super_vector(b"perm alone", 0x401332a3_5a4f4653, 8, NO_IDS, 0o777, 0);
+}
+
+// 21 to 23.
+fn misframed_blocks() {
     show_super(b"no byte", b"");
     show_super(b"a byte less", &[0u8; 4095]);
     show_super(b"a byte more", &[0u8; 4097]);
     show_super(b"all zero", &[0u8; 4096]);
-    super_vector(
-        b"all features",
-        0x35f56c3d_5a4f4653,
-        15,
-        0x00000064_000003e8,
-        0x00000000_00008184,
-        0,
-    );
-    super_vector(
-        b"no feature",
-        0xba63adfd_5a4f4653,
-        0,
-        0x00000064_000003e8,
-        0x00000000_00008184,
-        0,
-    );
-    super_vector(
-        b"uid alone",
-        0x4070142e_5a4f4653,
-        2,
-        0xffffffff_000003e8,
-        0x00000000_00008184,
-        0,
-    );
-    super_vector(
-        b"gid alone",
-        0x37a23f82_5a4f4653,
-        4,
-        0x00000064_ffffffff,
-        0x00000000_00008184,
-        0,
-    );
-    super_vector(
-        b"perm alone",
-        0x401332a3_5a4f4653,
-        8,
-        0xffffffff_ffffffff,
-        0x00000000_000001ff,
-        0,
-    );
-    super_vector(
-        b"magic",
-        0x6a8f35b8_5a4f4654,
-        15,
-        0x00000064_000003e8,
-        0x00000000_00008184,
-        0,
-    );
-    super_vector(
-        b"bit 4",
-        0x849a31a9_5a4f4653,
-        16,
-        0x00000064_000003e8,
-        0x00000000_00008184,
-        0,
-    );
-    super_vector(
-        b"bit 63",
-        0x378aaf3f_5a4f4653,
-        0x80000000_00000000,
-        0x00000064_000003e8,
-        0x00000000_00008184,
-        0,
-    );
-    super_vector(
-        b"uid",
-        0xb78a9957_5a4f4653,
-        15,
-        0x00000064_ffffffff,
-        0x00000000_00008184,
-        0,
-    );
-    super_vector(
-        b"gid",
-        0x25816544_5a4f4653,
-        15,
-        0xffffffff_000003e8,
-        0x00000000_00008184,
-        0,
-    );
-    super_vector(
-        b"byte 108",
-        0x800dfd73_5a4f4653,
-        15,
-        0x00000064_000003e8,
-        0x00000001_00008184,
-        0,
-    );
-    super_vector(
-        b"byte 4095",
-        0xd84def1d_5a4f4653,
-        15,
-        0x00000064_000003e8,
-        0x00000000_00008184,
-        0x80000000_00000000,
-    );
-    super_vector(
-        b"bit 4, uid and tail",
-        0x7ffcd576_5a4f4653,
-        18,
-        0x00000064_ffffffff,
-        0x00000000_00000000,
-        0x00000000_00000001,
-    );
-    super_vector(
-        b"uid and tail",
-        0x41054922_5a4f4653,
-        2,
-        0x00000064_ffffffff,
-        0x00000000_00000000,
-        0x00000000_00000001,
-    );
-    super_vector(
-        b"checksum inverted",
-        0xca0a93c2_5a4f4653,
-        15,
-        0x00000064_000003e8,
-        0x00000000_00008184,
-        0,
-    );
-    super_vector(
-        b"checksum of another",
-        0x35f56c3d_5a4f4653,
-        15,
-        0x00000064_000003e9,
-        0x00000000_00008184,
-        0,
-    );
+    super_vector(b"magic", 0x6a8f35b8_5a4f4654, 15, IDS, PERM, 0);
+    super_vector(b"checksum inverted", 0xca0a93c2_5a4f4653, 15, IDS, PERM, 0);
+    super_vector(b"other checksum", 0xba63adfd_5a4f4653, 15, IDS, PERM, 0);
+}
+
+// 24 to 26, and which of them comes first.
+fn misfilled_blocks() {
+    super_vector(b"bit 4", 0x849a31a9_5a4f4653, 16, IDS, PERM, 0);
+    super_vector(b"bit 63", 0x378aaf3f_5a4f4653, TOP_BIT, IDS, PERM, 0);
+    super_vector(b"uid", 0xb78a9957_5a4f4653, 15, NO_UID, PERM, 0);
+    super_vector(b"gid", 0x25816544_5a4f4653, 15, NO_GID, PERM, 0);
+    super_vector(b"byte 108", 0x800dfd73_5a4f4653, 15, IDS, PERM_AND_TAIL, 0);
+    super_vector(b"byte 4095", 0xd84def1d_5a4f4653, 15, IDS, PERM, TOP_BIT);
+    super_vector(b"bit 4, uid, tail", 0x7ffcd576_5a4f4653, 18, NO_UID, 0, 1);
+    super_vector(b"uid and tail", 0x41054922_5a4f4653, 2, NO_UID, 0, 1);
 }
 
 fn option_texts() {
@@ -274,6 +187,8 @@ fn option_texts() {
 }
 
 fn main() {
-    super_blocks();
+    good_blocks();
+    misframed_blocks();
+    misfilled_blocks();
     option_texts();
 }

@@ -2,18 +2,16 @@
 -- Assumes nothing.
 use Prim.Native.Nat.{ℕ, zero, suc, _+_, _-_, _≤_, _<_}
 use native.Mathlib.Omega.{arith}
-use native.Mathlib.Nat.{zero-add, add-suc, suc-add}
 use native.Mathlib.Numerals.{add-one}
 use mathlib.Core.Path.{_≡_, refl, _∙_, ap, sym}
 use mathlib.Core.Logic.{_≢_}
-use mathlib.Core.Bool.{Bool, true, false, cond, _&&_}
+use mathlib.Core.Bool.{Bool, true, false, _&&_}
 use mathlib.Core.List.{List, [], _∷_}
-use lib.ListN.{length, take, drop, getD, length-drop, drop-of-length-le}
-use lib.Seq.{drop-cons, drop-drop, getD-drop}
-use lib.Dec.{leb, eqb}
-use borrow.Author.Tests.{eq-eqb, ne-eqb, le-leb, lt-leb}
+use lib.ListN.{length, take, drop, getD, drop-of-length-le}
+use lib.Seq.{drop-cons, drop-drop}
+use lib.Dec.{eqb}
+use borrow.Author.Tests.{eq-eqb, ne-eqb}
 use Rattle.options.specs.declared.Options.{Options}
-use Rattle.options.specs.declared.Options.the-variants.{Policy, Bad}
 use Rattle.options.specs.Options.{comma, split, skipEmpty, same, afterPiece, afterPieces}
 
 -- TWO TEXTS
@@ -45,18 +43,18 @@ same-end a b i h k = rw (drop-of-length-le a, drop-of-length-le b)
 -- PIECES
 
 -- the pieces after one that the rest of a text follows: none where the text ends there, and else those after a comma
-pub after : List ℕ → List (List ℕ)
+after : List ℕ → List (List ℕ)
 after [] = []
 after (x ∷ xs) = split xs
 
 -- the first piece has k bytes: no comma stands among them, and one stands behind them unless the text ends
-pub first-piece : (k : ℕ) (s : List ℕ) → k ≤ length s → ((j : ℕ) → j < k → getD s j 0 ≢ comma) → (k < length s → getD s k 0 ≡ comma) → split s ≡ take k s ∷ after (drop k s)
+first-piece : (k : ℕ) (s : List ℕ) → k ≤ length s → ((j : ℕ) → j < k → getD s j 0 ≢ comma) → (k < length s → getD s k 0 ≡ comma) → split s ≡ take k s ∷ after (drop k s)
 unfolding split after
 first-piece zero [] h none here = refl
-first-piece zero (x ∷ xs) h none here = let e : x ≡ 44 = here (omega arith) in rw (eq-eqb x 44 e)
+first-piece zero (x ∷ xs) h none here = rw (eq-eqb x comma (here (omega arith)))
 first-piece (suc k) [] h none here = absurd (omega arith)
 first-piece (suc k) (x ∷ xs) h none here =
-    rw (ne-eqb x 44 (none 0 (omega arith)), first-piece k xs (omega arith) (λ j g. none (suc j) (omega arith)) (λ g. here (omega arith)))
+    rw (ne-eqb x comma (none 0 (omega arith)), first-piece k xs (omega arith) (λ j g. none (suc j) (omega arith)) (λ g. here (omega arith)))
 
 -- the pieces of a text from `at` on, where one starts; past the end there is none
 pub piecesFrom : List ℕ → ℕ → List (List ℕ)

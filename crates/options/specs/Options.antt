@@ -18,7 +18,7 @@ mostBytes = 255
 abbrev pub comma : ℕ
 comma = code ","
 
--- "pieces split by commas": a byte in front of the first piece
+-- a byte in front of the first piece; a text always has one
 abbrev pub inFront : ℕ → List (List ℕ) → List (List ℕ)
 inFront x [] = (x ∷ []) ∷ []
 inFront x (piece ∷ pieces) = (x ∷ piece) ∷ pieces

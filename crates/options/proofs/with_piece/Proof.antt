@@ -1,5 +1,5 @@
 use Rattle.options.proofs.Laws.{empty-piece, full-piece}
-use mathlib.Core.Path.{sym, ap, _∙_}
+use mathlib.Core.Path.{sym}
 use borrow.Author.Needs.{needs}
 use Rattle.options.proofs.with_piece.Statement.{statement}
 use Rattle.options.proofs.with_piece.Tie as tie
