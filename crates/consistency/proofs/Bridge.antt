@@ -1,18 +1,19 @@
 -- From the words of a table to its rows.
 -- Assumes nothing.
-use Prim.Native.Nat.{ℕ, zero, suc, _+_, _*_, _<_, _≤_}
+use Prim.Native.Nat.{ℕ, _<_, _≤_}
 use native.Mathlib.Omega.{arith}
 use native.Mathlib.Decide.{ℕ-discrete}
 use mathlib.Core.Path.{_≡_, refl, sym, _∙_, ap}
 use mathlib.Core.Logic.{_≢_}
-use mathlib.Core.List.{List, [], _∷_, _++_}
-use lib.ListN.{length, getD, set, drop, length-set}
+use mathlib.Core.List.{List}
+use lib.ListN.{length, getD, set, length-set}
 use lib.Seq.{getD-set-same, getD-set-other}
 use Rattle.types.specs.declared.Row.{Row}
 use Rattle.table.specs.declared.Slot.the-variants.{Good}
-use Rattle.table.specs.Rows.{rowsLent, rowWidth, rowWords, offlineRow, rowAt, setRow}
-use Rattle.table.proofs.Laws.{condition-back, access-back, setRow-length, rowAt-same, rowAt-other}
-use Rattle.mount.specs.Fill.{words, fill}
+use Rattle.table.specs.Rows.{rowsLent, offlineRow, rowAt, setRow}
+use Rattle.table.proofs.Laws.{rowAt-same, rowAt-other}
+use Rattle.mount.specs.Fill.{fill}
+use Rattle.mount.proofs.Tables.{filled-row}
 
 abbrev pub noRow : Row
 noRow = offlineRow 0 0
@@ -44,22 +45,5 @@ listed-became {t} {rows} {k} {i} {r} {new} s l b = record { enough = simp length
     ]
 
 -- A FILLED TABLE shows the rows that it was filled with.
-row-first : (r : Row) (t : List ℕ) → rowAt (rowWords r ++ t) 0 ≡ Good r
-unfolding rowAt
-row-first r t = rw (condition-back, access-back)
-
-row-next : (a b c d e : ℕ) (t : List ℕ) (n : ℕ) → rowAt (a ∷ b ∷ c ∷ d ∷ e ∷ t) (suc n) ≡ rowAt t n
-unfolding rowAt
-row-next a b c d e t n =
-    let at : (k : ℕ) → suc n * 5 + k ≡ suc (suc (suc (suc (suc (n * 5 + k))))) = (λ k. omega arith) in
-    rw (at 0, at 1, at 2, at 3, at 4)
-
-words-row : (rows : List Row) (t : List ℕ) (n : ℕ) → n < length rows → rowAt (words rows ++ t) n ≡ Good (getD rows n noRow)
-unfolding words
-words-row [] t n h = absurd (omega arith)
-words-row (r ∷ rows) t zero h = row-first r (words rows ++ t)
-words-row (r ∷ rows) t (suc n) h = row-next _ _ _ _ _ (words rows ++ t) n ∙ words-row rows t n (omega arith)
-
-pub fill-listed : (t : List ℕ) (rows : List Row) → Listed (fill t rows) rows (length rows)
-unfolding fill
-fill-listed t rows = record { enough = omega arith; row = words-row rows (drop (length rows * rowWidth) t) }
+pub fill-listed : (t : List ℕ) (rows : List Row) → length rows ≤ rowsLent (length t) → Listed (fill t rows) rows (length rows)
+fill-listed t rows room = record { enough = omega arith; row = λ n h. filled-row t rows n noRow h room }

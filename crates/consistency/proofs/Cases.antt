@@ -18,7 +18,7 @@ use Rattle.zones.specs.Zone.{goodRecord, goodZone}
 use Rattle.zones.specs.Report.{goodHeader, zonesFrom, zonesOf, goodRun, reportCheck}
 use Rattle.mount.specs.Files.{seqRows, runs, capacityOf, allHealthy, cnvRows}
 use Rattle.mount.specs.Fill.{words, fill}
-use Rattle.mount.specs.Mount.{Mounting, aggregated, checkSuper, checkOptions, checkReport, fitAnswer, fileZones, mountOf, tableAfter, mountAnswer, mountOutcome}
+use Rattle.mount.specs.Mount.{Mounting, aggregated, checkSuper, checkOptions, checkReport, fitAnswer, reportAnswer, fileZones, mountOf, tableAfter, mountAnswer, mountOutcome}
 use Rattle.mount.specs.Mount as mount
 use Rattle.table.specs.Rows.{rowAt, setRow}
 use Rattle.calls.specs.Checks.{countsFit, lookupOf, soundRow, fileOf}
@@ -70,14 +70,14 @@ mount-plain : mounting false ≡ plain
 unfolding report little recordThen recordsThen reportFrom le split skipEmpty same pieceOf optionsOf
     goodRecord goodZone goodHeader zonesFrom zonesOf goodRun reportCheck
     seqRows runs capacityOf allHealthy cnvRows words fill
-    mount.refuse checkSuper checkOptions checkReport fitAnswer fileZones mount.answerOf mountOf tableAfter mountAnswer mountOutcome
+    mount.refuse checkSuper checkOptions checkReport fitAnswer reportAnswer fileZones mount.answerOf mountOf tableAfter mountAnswer mountOutcome
 mount-plain = rw (super-plain, plainly) refl
 
 mount-joined : mounting true ≡ joined
 unfolding report little recordThen recordsThen reportFrom le split skipEmpty same pieceOf optionsOf
     goodRecord goodZone goodHeader zonesFrom zonesOf goodRun reportCheck
     seqRows runs capacityOf allHealthy cnvRows words fill
-    mount.refuse checkSuper checkOptions checkReport fitAnswer fileZones mount.answerOf mountOf tableAfter mountAnswer mountOutcome
+    mount.refuse checkSuper checkOptions checkReport fitAnswer reportAnswer fileZones mount.answerOf mountOf tableAfter mountAnswer mountOutcome
 mount-joined = rw (super-joined, jointly) refl
 
 computed : map (λ (c : Case). c .given) (casesOf plain joined) ≡ map (λ (c : Case). c .stated) (casesOf plain joined)

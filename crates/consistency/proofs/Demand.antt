@@ -25,10 +25,12 @@ use Rattle.table.specs.Rows.{rowsLent, rowAt}
 use Rattle.superblock.specs.SuperBlock.{superRead}
 use Rattle.options.specs.Options.{optionsOf}
 use Rattle.zones.specs.declared.Zone.{Zone}
-use Rattle.zones.specs.Report.{zoneCount, zonesOf, goodRun}
+use Rattle.zones.specs.Report.{zoneCount, zonesOf}
 use Rattle.mount.specs.Files.{cnvRows, seqRows}
 use Rattle.mount.specs.Fill.{fill}
 use Rattle.mount.specs.Mount.{Mounting, fileZones, policyOf, aggregated, mountOf, tableAfter, mountAnswer, mountOutcome}
+use Rattle.zones.proofs.Laws.{framed, zones-length, AllGood, report-told, report-good}
+use Rattle.mount.proofs.Mounted.{Accepted, mounted-told, mounted-given}
 use Rattle.completion.specs.Completions.{digestOf}
 use Rattle.consistency.specs.Disk.{DiskZone, Choice}
 use Rattle.consistency.specs.Story.{Story, atMount}
@@ -43,9 +45,9 @@ use Rattle.consistency.proofs.Sound.{Sound}
 use Rattle.consistency.proofs.Files.{Files, none, other, file, kinds}
 use Rattle.consistency.proofs.Digests.{holdOf}
 use Rattle.consistency.proofs.Steps.{Right, right-run, new, seq-digested, cnv-digested, replied}
-use Rattle.consistency.proofs.Mounts.{Mounts, mounts, mount-answered, zones-count, header-count, report-runs, report-good}
+use Rattle.consistency.proofs.Mounts.{is-mounted}
 use Rattle.consistency.proofs.Start.{files-start, covers-start, covers-nth}
-use Rattle.consistency.proofs.Fresh.{run-good, seq-count, shown, cnv-count, map-length}
+use Rattle.consistency.proofs.Fresh.{all-good, seq-count, shown, cnv-count, map-length}
 use Rattle.consistency.proofs.Report.{All, nil, cons, report-shows, report-bytes}
 
 module _ (block : ℕ) (superblock options report cnv seq : List ℕ) where
@@ -64,37 +66,47 @@ module _ (block : ℕ) (superblock options report cnv seq : List ℕ) where
     seq = fill seq seqs;
   }
 
-  mount-gives : Mounts block superblock options report cnv seq → mountOutcome block superblock options report cnv seq ≡ mounting
+  mount-gives : mountOutcome block superblock options report cnv seq .answer ≡ Mounted (length cnvs) (length seqs) → mountOutcome block superblock options report cnv seq ≡ mounting
   unfolding mountOutcome tableAfter
-  mount-gives m = rw (mount-answered block superblock options report cnv seq m) refl
+  mount-gives e = rw e refl
 
-  answers : mountNumber (mountOutcome block superblock options report cnv seq .answer) ≡ 0 → Mounts block superblock options report cnv seq
-  unfolding mountOutcome
-  answers e = mounts block superblock options report cnv seq e
+  answered : mountNumber (mountOutcome block superblock options report cnv seq .answer) ≡ 0 → mountOutcome block superblock options report cnv seq .answer ≡ Mounted (length cnvs) (length seqs)
+  answered zeroed =
+      let (c, (s, e)) = is-mounted (mountOutcome block superblock options report cnv seq .answer) zeroed in
+      let t = mounted-told block superblock options report cnv seq c s e in
+      let n = t .cnvs in
+      let m = t .seqs in
+      let same : _≡_ {A = MountAnswer} (Mounted c s) (Mounted (length cnvs) (length seqs)) = cc in
+      e ∙ same
+
+  abbrev Told : Type 0
+  Told = Accepted block (superRead superblock .check) (optionsOf options) (aggregated superblock) report (rowsLent (length cnv)) (rowsLent (length seq)) (length cnvs) (length seqs)
+
+  told : mountNumber (mountOutcome block superblock options report cnv seq .answer) ≡ 0 → Told
+  told e = mounted-told block superblock options report cnv seq (length cnvs) (length seqs) (answered e)
 
   -- the world that it leaves
-  right-mounted : Mounts block superblock options report cnv seq → (disk : List DiskZone) → ShowsZones (zonesOf report) disk → Right (mounting .mount .volume) (kinds disk) (mounted mounting disk)
+  right-mounted : Told → (disk : List DiskZone) → ShowsZones (zonesOf report) disk → Right (mounting .mount .volume) (kinds disk) (mounted mounting disk)
   unfolding mounted mountOf fileZones
-  right-mounted m disk ws =
-      let b = is-block block (m .blocked) in
-      let runs = report-runs (blockSectors block) report (m .reported) in
+  right-mounted t disk ws =
+      let b = is-block block (t .unit) in
+      let good = report-told (blockSectors block) report (t .report) .zones in
       record {
         same = refl;
         block = b;
         zones = refl;
         rows = seqs;
-        listed = fill-listed seq seqs;
-        files = files-start b (policyOf (optionsOf options)) ws runs;
+        listed = fill-listed seq seqs (t .seqFit);
+        files = files-start b (policyOf (optionsOf options)) ws good;
         plain = cnvs;
-        plainly = fill-listed cnv cnvs;
-        covers = λ n h. covers-nth (covers-start b (aggregated superblock) ws runs) n h;
+        plainly = fill-listed cnv cnvs (t .cnvFit);
+        covers = λ n h. covers-nth (covers-start b (aggregated superblock) ws good) n h;
         held = tt;
       }
 
   pub right-after : (disk : List DiskZone) → Start block superblock options report cnv seq disk → (events : List Event) → Right (mounting .mount .volume) (kinds disk) (after block superblock options report cnv seq disk events)
   right-after disk s events =
-      let m = answers (s .answer) in
-      rw (mount-gives m) (right-run (right-mounted m disk (s .shows .zones)) events)
+      rw (mount-gives (answered (s .answer))) (right-run (right-mounted (told (s .answer)) disk (s .shows .zones)) events)
 
 module _ (block : ℕ) (superblock options report cnv seq : List ℕ) (disk : List DiskZone) (start : Start block superblock options report cnv seq disk) (events : List Event) where
   abbrev w : World
@@ -103,8 +115,8 @@ module _ (block : ℕ) (superblock options report cnv seq : List ℕ) (disk : Li
   right : Right (mounting block superblock options report cnv seq .mount .volume) (kinds disk) w
   right = right-after block superblock options report cnv seq disk start events
 
-  first : Mounts block superblock options report cnv seq
-  first = answers block superblock options report cnv seq (start .answer)
+  first : Told block superblock options report cnv seq
+  first = told block superblock options report cnv seq (start .answer)
 
   same-block : w .mount .volume .block ≡ block
   unfolding mountOf
@@ -128,22 +140,24 @@ module _ (block : ℕ) (superblock options report cnv seq : List ℕ) (disk : Li
     unfolding fileZones
     cnvs-again = cnv-count (aggregated superblock) (shows .zones) (start .shows .zones) (right .zones)
 
-    again : Mounts block superblock options report′ cnv′ seq′
+    again : Told block superblock options report′ cnv′ seq′
     again = record {
-      blocked = first .blocked;
-      checked = first .checked;
-      chosen = first .chosen;
-      reported = report-good (blockSectors block) report′ (shows .header)
-          (subst (λ n. length (zonesOf report′) ≤ goodRun (blockSectors n) 0 (zonesOf report′)) same-block (run-good (right .files) (shows .zones)));
-      cnvRoom = rw (cnvs-again, sc) (first .cnvRoom);
-      seqRoom = rw (seqs-again, same-files, ss) (first .seqRoom);
+      unit = first .unit;
+      super = first .super;
+      options = first .options;
+      report = report-good (blockSectors block) report′
+          (record { header = shows .header; zones = subst (λ n. AllGood (blockSectors n) 0 (zonesOf report′)) same-block (all-good (right .files) (shows .zones)) });
+      cnvs = refl;
+      seqs = refl;
+      cnvFit = rw (cnvs-again, sc) (first .cnvFit);
+      seqFit = rw (seqs-again, same-files, ss) (first .seqFit);
     }
 
     fresh-row : (n : ℕ) → n < w .mount .volume .sequential → rowAt (fill seq′ (seqRows (fileZones report′))) n ≡ Good (shownRow (zoneOf w n))
     unfolding fileZones
     fresh-row n h =
         let inside : n < length (seqRows (drop 1 (zonesOf report′))) = omega (arith, h, seq-count (right .files) (shows .zones)) in
-        fill-listed seq′ (seqRows (drop 1 (zonesOf report′))) .row n inside ∙ ap Good (shown (right .files) (shows .zones) n h .row)
+        fill-listed seq′ (seqRows (drop 1 (zonesOf report′))) (again .seqFit) .row n inside ∙ ap Good (shown (right .files) (shows .zones) n h .row)
 
     compares : (n : ℕ) → n < w .mount .volume .sequential → storyOf w n .quiet ≡ true
         → Compares (policyOf (optionsOf options)) (storyOf w n) (zoneOf w n) (fill seq′ (seqRows (fileZones report′))) (w .seq) n
@@ -158,7 +172,7 @@ module _ (block : ℕ) (superblock options report cnv seq : List ℕ) (disk : Li
     consistent : Consistent block superblock options report′ cnv′ seq′ w
     unfolding mountOf
     consistent =
-        let g = mount-gives block superblock options report′ cnv′ seq′ again in
+        let g = mount-gives block superblock options report′ cnv′ seq′ (mounted-given block superblock options report′ cnv′ seq′ _ _ again) in
         record { answer = rw g; files = rw g seqs-again; rows = rw g compares }
 
 -- THE CLAIM
@@ -205,9 +219,9 @@ unfolding AlwaysReported
 always-reported block superblock options report cnv seq disk start events =
     let w = after block superblock options report cnv seq disk events in
     let r = right-after block superblock options report cnv seq disk start events in
-    let same : length (w .disk) ≡ zoneCount report = kinds-length (w .disk) disk (r .zones) ∙ sym (shown-length (start .shows .zones)) ∙ zones-count report in
-    let (some, few) = header-count report (start .shows .header) in
+    let same : length (w .disk) ≡ zoneCount report = kinds-length (w .disk) disk (r .zones) ∙ sym (shown-length (start .shows .zones)) ∙ zones-length report in
+    let frame = framed report (start .shows .header) in
     record {
       bytes = report-bytes (w .disk);
-      shows = report-shows (w .disk) (sound-zones (r .files)) (omega (arith, same, some)) (omega (arith, same, few));
+      shows = report-shows (w .disk) (sound-zones (r .files)) (omega (arith, same, frame .some)) (omega (arith, same, frame .few));
     }

@@ -28,7 +28,7 @@ use Rattle.completion.specs.declared.Store.the-variants as store
 use Rattle.completion.specs.declared.held.Pending.the-variants as pending
 use Rattle.completion.specs.Held.{pendingOf, Ready}
 use Rattle.completion.specs.Completions.{Completion, good, failed, stored, countOf, rowAfter, succeeded, nothingLost, recoveredRow, markedBy, failing, recovering, recovered, recordFits, digestOf, digestPending}
-use Rattle.consistency.proofs.Borrowed.{pending-ready}
+use Rattle.completion.proofs.Laws.{pending-ready}
 use Rattle.consistency.proofs.Bridge.{Became, set-became, still-became}
 use Rattle.consistency.proofs.Keeps.{failedRow}
 

@@ -24,9 +24,9 @@ use Rattle.calls.proofs.Laws.{passed, not-done, issued}
 use Rattle.zones.specs.Zone.{conditionOf}
 use Rattle.completion.specs.Held.{callFor, issuable}
 use Rattle.completion.specs.Completions.{recordFits, matchesSequential, withinConventional}
+use Rattle.completion.proofs.Issuable.{issuable-call}
 use Rattle.consistency.specs.Disk.{DiskZone, Choice, reported, moved, struck, perform, performedBy, allows, landedBy}
 use Rattle.consistency.specs.Story.{Story}
-use Rattle.consistency.proofs.Borrowed.{issuable-call}
 use Rattle.consistency.proofs.Sound.{Sound, says-conventional, says-sequential, says-condition, reported-shows, record-good, sound-struck}
 use Rattle.consistency.proofs.Keeps.{Agrees, Live, notBetter, not-better, landed-at, live-of}
 use Rattle.consistency.proofs.Files.{Inside}

@@ -32,8 +32,8 @@ use Rattle.completion.specs.declared.held.Pending.{Pending}
 use Rattle.completion.specs.declared.held.Pending.the-variants as pending
 use Rattle.completion.specs.Held.{pendingOf, PendingTells}
 use Rattle.completion.specs.Completions.{Completion, good, failed, malformed, stored, refusing, succeeded, recovered, recovering, failing, markedBy, nothingLost, recoveredRow, recordFits, digested, digestPending, digestOf}
+use Rattle.completion.proofs.Laws.{pending-tells}
 use Rattle.consistency.specs.Frame.{Elsewhere, CallKeeps, TableKeeps, CompletionKeeps, Frame}
-use Rattle.consistency.proofs.Borrowed.{pending-tells}
 
 call-keeps : (m : Mount) (k : FileKind) (n : ℕ) (a : Answer) → CallKeeps m (settled m k n a)
 call-keeps m k n (Refused x) = record { volume = refl; readonly = refl; refused = λ e. refl }

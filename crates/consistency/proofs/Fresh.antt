@@ -15,8 +15,8 @@ use Rattle.types.specs.declared.ErrorPolicy.{ErrorPolicy}
 use Rattle.types.proofs.Tests.{both}
 use Rattle.calls.specs.Checks.{isConventional}
 use Rattle.zones.specs.declared.Zone.{Zone}
-use Rattle.zones.specs.Zone.{conventional, sequential, goodRecord, goodZone}
-use Rattle.zones.specs.Report.{goodRun}
+use Rattle.zones.specs.Zone.{conventional, sequential, goodZone}
+use Rattle.zones.proofs.Laws.{AllGood}
 use Rattle.mount.specs.Files.{seqRow, rowIf, seqRows, startsConventional, joined, runsWith, runs, runRow, cnvRows}
 use Rattle.consistency.specs.Disk.{DiskZone}
 use Rattle.consistency.specs.Story.{Story}
@@ -31,19 +31,17 @@ use Rattle.consistency.proofs.Files as files
 use Rattle.consistency.proofs.Start.{seq-row}
 
 -- THE ZONES are good input
-good-next : {b at : ℕ} {r : Zone} {z : DiskZone} (rs : List Zone) → ShowsZone r z → z .start ≡ at → Sound b z → length rs ≤ goodRun (b / 512) (at + z .length) rs → length (r ∷ rs) ≤ goodRun (b / 512) at (r ∷ rs)
-unfolding goodRun goodZone
+good-next : {b at : ℕ} {r : Zone} {z : DiskZone} (rs : List Zone) → ShowsZone r z → z .start ≡ at → Sound b z → AllGood (b / 512) (at + z .length) rs → AllGood (b / 512) at (r ∷ rs)
+unfolding AllGood goodZone
 good-next {b} {at} {r} {z} rs w e s l =
-    let g : goodZone (b / 512) at r ≡ true = both (eq-eqb (r .start) at (w .start ∙ e)) (record-good w s) in
     let n : r .start + r .length ≡ at + z .length = omega (arith, w .start, w .length, e) in
-    let m : length rs ≤ goodRun (b / 512) (r .start + r .length) rs = rw n l in
-    rw g (omega (arith, m))
+    (both (eq-eqb (r .start) at (w .start ∙ e)) (record-good w s), rw n l)
 
-pub run-good : {b : ℕ} {p : ErrorPolicy} {at : ℕ} {zs : List DiskZone} {ss : List Story} {rows : List Row} {k : ℕ} {rs : List Zone} → Files b p at zs ss rows k → ShowsZones rs zs → length rs ≤ goodRun (b / 512) at rs
-unfolding goodRun
-run-good files.none none = omega arith
-run-good (files.other e f s t) (next {rs = rs} w ws) = good-next rs w e s (run-good t ws)
-run-good (files.file e a t) (next {rs = rs} w ws) = good-next rs w e (a .sound) (run-good t ws)
+pub all-good : {b : ℕ} {p : ErrorPolicy} {at : ℕ} {zs : List DiskZone} {ss : List Story} {rows : List Row} {k : ℕ} {rs : List Zone} → Files b p at zs ss rows k → ShowsZones rs zs → AllGood (b / 512) at rs
+unfolding AllGood
+all-good files.none none = tt
+all-good (files.other e f s t) (next {rs = rs} w ws) = good-next rs w e s (all-good t ws)
+all-good (files.file e a t) (next {rs = rs} w ws) = good-next rs w e (a .sound) (all-good t ws)
 
 -- a zone past zone 0 that is no file is conventional
 plain-zone : (k : FileKind) (n : ℕ) → 0 < n → not (isConventional k) && ltb 0 n ≡ false → not (isConventional k) ≡ false

@@ -32,9 +32,9 @@ use Rattle.completion.specs.declared.grid.Rule.{Rule}
 use Rattle.completion.specs.Grid.{recoveryGrid, ruleOf}
 use Rattle.completion.specs.Held.{callFor, issuable}
 use Rattle.completion.specs.Completions.{rowAfter, nothingLost, ruledSize, ruledAccess, recoveredRow}
+use Rattle.completion.proofs.Issuable.{issuable-call}
 use Rattle.consistency.specs.Disk.{DiskZone, Mishap, Harm, none, toReadOnly, toOffline, worsened, moved, struck, Choice, perform, performedBy, allows, takesAt, flushes, advanced, pointerAfter, landedBy, reported}
 use Rattle.consistency.specs.Story.{Story, isRead, freshSize, lastSizeAt, sameCondition, stays, afterMishap, afterSuccess, afterFailure, afterCommand}
-use Rattle.consistency.proofs.Borrowed.{issuable-call}
 use Rattle.consistency.proofs.Whole.{At, at-start, at-end, at-write, at-fall, whole-min, whole-size}
 use Rattle.consistency.proofs.Sound.{Sound, says-condition, reported-shows, sound-moved, sound-struck}
 

@@ -1,6 +1,5 @@
 pub mod Whole
 pub mod Sound
-pub mod Borrowed
 pub mod Keeps
 pub mod Promised
 pub mod Frame

@@ -20,8 +20,8 @@ use Rattle.types.proofs.Tests.{and-left, and-right}
 use Rattle.types.proofs.Blocks.{IsBlock}
 use Rattle.calls.specs.Checks.{isConventional, isReadOnly}
 use Rattle.zones.specs.declared.Zone.{Zone}
-use Rattle.zones.specs.Zone.{isHealthy, healthy, conventional, sequential, writtenSize, goodRecord, goodZone}
-use Rattle.zones.specs.Report.{goodRun}
+use Rattle.zones.specs.Zone.{isHealthy, healthy, conventional, sequential, writtenSize}
+use Rattle.zones.proofs.Laws.{zone-told, AllGood}
 use Rattle.mount.specs.Files.{fileRow, seqRow, rowIf, seqRows, startsConventional, runsWith, runs, joined, runRow, startOf, capacityOf, allHealthy, cnvRows}
 use Rattle.consistency.specs.Disk.{DiskZone}
 use Rattle.consistency.specs.Story.{Story, freshSize, atMount}
@@ -85,23 +85,18 @@ agrees-at-mount {b} p z block sound kind inner = record { kind = kind; sound = s
 record Good (b at : ℕ) (r : Zone) (z : DiskZone) (rs : List Zone) : Type 0 where
   start : z .start ≡ at
   sound : Sound b z
-  rest : length rs ≤ goodRun (b / 512) (at + z .length) rs
+  rest : AllGood (b / 512) (at + z .length) rs
 
-good-first : {b at : ℕ} {r : Zone} {z : DiskZone} {rs : List Zone} → ShowsZone r z → at % (b / 512) ≡ 0 → length (r ∷ rs) ≤ goodRun (b / 512) at (r ∷ rs) → Good b at r z rs
-unfolding goodRun goodZone
-good-first {b} {at} {r} {z} {rs} w on l = by (goodZone (b / 512) at r) refl l
-  where
-    by : (t : Bool) → goodZone (b / 512) at r ≡ t → suc (length rs) ≤ cond t (goodRun (b / 512) (r .start + r .length) rs + 1) 0 → Good b at r z rs
-    by true e l =
-        let s : r .start ≡ at = eqb-true _ _ (and-left _ _ e) in
-        let start : z .start ≡ at = sym (w .start) ∙ s in
-        let g : goodRecord (b / 512) r ≡ true = and-right (eqb (r .start) at) _ e in
-        let next : r .start + r .length ≡ at + z .length = omega (arith, s, w .length) in
-        record { start = start; sound = sound-of w g (rw start on); rest = subst (λ n. length rs ≤ goodRun (b / 512) n rs) next (omega (arith, l)) }
-    by false e l = absurd (omega (arith, l))
+good-first : {b at : ℕ} {r : Zone} {z : DiskZone} {rs : List Zone} → ShowsZone r z → at % (b / 512) ≡ 0 → AllGood (b / 512) at (r ∷ rs) → Good b at r z rs
+unfolding AllGood
+good-first {b} {at} {r} {z} {rs} w on (g, rest) =
+    let (s, good) = zone-told (b / 512) at r g in
+    let start : z .start ≡ at = sym (w .start) ∙ s in
+    let next : r .start + r .length ≡ at + z .length = omega (arith, s, w .length) in
+    record { start = start; sound = sound-of w good (rw start on); rest = subst (λ n. AllGood (b / 512) n rs) next rest }
 
 -- THE SEQUENTIAL FILES, past zone 0
-files-at : {b : ℕ} → IsBlock b → (p : ErrorPolicy) (at : ℕ) {rs : List Zone} {zs : List DiskZone} → ShowsZones rs zs → 0 < at → at % (b / 512) ≡ 0 → length rs ≤ goodRun (b / 512) at rs
+files-at : {b : ℕ} → IsBlock b → (p : ErrorPolicy) (at : ℕ) {rs : List Zone} {zs : List DiskZone} → ShowsZones rs zs → 0 < at → at % (b / 512) ≡ 0 → AllGood (b / 512) at rs
     → Files b p at zs (map atMount zs) (seqRows rs) (length (seqRows rs))
 unfolding seqRows
 files-at block p at none inner on l = files.none
@@ -122,7 +117,7 @@ nothing-first : (k : FileKind) (n : ℕ) → n ≡ 0 → not (isConventional k) 
 nothing-first Conventional n e = refl
 nothing-first Sequential n e = rw e
 
-pub files-start : {b : ℕ} → IsBlock b → (p : ErrorPolicy) {rs : List Zone} {zs : List DiskZone} → ShowsZones rs zs → length rs ≤ goodRun (b / 512) 0 rs
+pub files-start : {b : ℕ} → IsBlock b → (p : ErrorPolicy) {rs : List Zone} {zs : List DiskZone} → ShowsZones rs zs → AllGood (b / 512) 0 rs
     → Files b p 0 zs (map atMount zs) (seqRows (drop 1 rs)) (length (seqRows (drop 1 rs)))
 unfolding seqRows
 files-start block p none l = files.none
@@ -214,7 +209,7 @@ longer {b} {at} {r} {z} {rs} {zs} w k e sound (run ∷ rest) (cons l q v) h =
     record { cover = cons low (covers-joined z zs row (runRow run) s c (omega (arith, h, e)) k sound q) (all-later at z zs e v); head = λ _. s ∙ e }
 
 -- the rows of the runs among zones that are good input
-runs-at : {b : ℕ} → IsBlock b → (g : Bool) (at : ℕ) {rs : List Zone} {zs : List DiskZone} → ShowsZones rs zs → at % (b / 512) ≡ 0 → length rs ≤ goodRun (b / 512) at rs
+runs-at : {b : ℕ} → IsBlock b → (g : Bool) (at : ℕ) {rs : List Zone} {zs : List DiskZone} → ShowsZones rs zs → at % (b / 512) ≡ 0 → AllGood (b / 512) at rs
     → Runs-start b at rs zs (map runRow (runs g rs))
 unfolding runs
 runs-at block g at none on l = record { cover = nil; head = λ e. absurd (false≢true e) }
@@ -236,7 +231,7 @@ runs-at {b} block g at (next {r = r} {z = z} {rs = rs} {zs = zs} w ws) on l =
     by true e true j f n = longer w (plain e) (f .start) (f .sound) (runs g rs) (n .cover) (n .head (and-right g _ j))
 
 -- and with zone 0 before them
-pub covers-start : {b : ℕ} → IsBlock b → (g : Bool) {rs : List Zone} {zs : List DiskZone} → ShowsZones rs zs → length rs ≤ goodRun (b / 512) 0 rs → Rows-cover b 0 zs (cnvRows g (drop 1 rs))
+pub covers-start : {b : ℕ} → IsBlock b → (g : Bool) {rs : List Zone} {zs : List DiskZone} → ShowsZones rs zs → AllGood (b / 512) 0 rs → Rows-cover b 0 zs (cnvRows g (drop 1 rs))
 unfolding cnvRows runs
 covers-start block g none l = nil
 covers-start {b} block g (next {r = r} {z = z} {rs = rs} {zs = zs} w ws) l =

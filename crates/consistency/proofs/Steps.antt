@@ -34,10 +34,10 @@ use Rattle.completion.specs.declared.Digest.{Digest}
 use Rattle.completion.specs.declared.held.Pending.the-variants as pending
 use Rattle.completion.specs.Held.{Ready, pendingOf, pendingBy, issuable}
 use Rattle.completion.specs.Completions.{Completion, good, failed, malformed, stored, countOf, rowAfter, recoveredRow, nothingLost, recordFits, digestOf, digestPending}
+use Rattle.completion.proofs.Issuable.{issuable-complete}
 use Rattle.consistency.specs.Disk.{DiskZone, Mishap, Choice, Performed, reported, moved, worsened, fallen, struck, perform, performedBy, allows}
 use Rattle.consistency.specs.Story.{Story, afterMishap, afterCommand}
 use Rattle.consistency.specs.World.{World, noZone, noStory, zoneHolding, isSeqFile, Event, call, mishap, doing, stray, truthful, performAt, digestedTo, digesting, settledAt, doneBy, strayBy, harmed, step, run}
-use Rattle.consistency.proofs.Borrowed.{issuable-complete}
 use Rattle.consistency.proofs.Sound.{Sound, sound-struck}
 use Rattle.consistency.proofs.Keeps.{Agrees, keeps-mishap, keeps-command, failedRow, digestedRow}
 use Rattle.consistency.proofs.Bridge.{noRow, Listed, Became, listed-became}
