@@ -3,6 +3,7 @@
 use mathlib.Core.Bool.{Bool, true, false}
 use mathlib.Core.List.{List, [], _∷_, map}
 use Prim.Native.Nat.{ℕ}
+use Rattle.types.specs.declared.ErrorPolicy.{ErrorPolicy}
 use Rattle.types.specs.declared.ErrorPolicy.the-variants.{Repair}
 use Rattle.types.specs.declared.Outstanding.the-variants.{Idle}
 use Rattle.types.specs.declared.MountAnswer.the-variants.{Mounted}
@@ -30,10 +31,10 @@ use Rattle.consistency.specs.Report.{little, recordThen, recordsThen, re
 use Rattle.consistency.specs.Cases.{report, superblock, uuidEnd, mounting, Case, casesOf, Starred}
 
 -- the super blocks are good, and say this
-abbrev read : Bool → SuperRead
+abbrev pub read : Bool → SuperRead
 read aggregate = record { check = sc.Good; fields = record { aggregate = aggregate; owner = 0; group = 0; mode = 0o640; uuid = 1 ∷ 2 ∷ 3 ∷ 4 ∷ 5 ∷ 6 ∷ 7 ∷ 8 ∷ 9 ∷ 10 ∷ 11 ∷ 12 ∷ uuidEnd aggregate } }
 
-super-plain : superRead (superblock false) ≡ read false
+pub super-plain : superRead (superblock false) ≡ read false
 unfolding superblock little le crcFrom crcByte crcSteps crcStep superblockCrc nonzero refuse superCheck fieldsOf superRead
 super-plain = refl
 
@@ -42,11 +43,11 @@ unfolding superblock little le crcFrom crcByte crcSteps crcStep superblockCrc no
 super-joined = refl
 
 -- what the mounts give
-abbrev given : ℕ → Bool → List ℕ → Mounting
-given cnvs aggregate cnv = record {
+abbrev pub givenUnder : ErrorPolicy → ℕ → Bool → List ℕ → Mounting
+givenUnder p cnvs aggregate cnv = record {
   answer = Mounted cnvs 2;
   mount = record {
-    volume = record { block = 4096; conventional = cnvs; sequential = 2; owner = 0; group = 0; mode = 0o640; policy = Repair; uuid = read aggregate .fields .uuid };
+    volume = record { block = 4096; conventional = cnvs; sequential = 2; owner = 0; group = 0; mode = 0o640; policy = p; uuid = read aggregate .fields .uuid };
     readonly = false;
     outstanding = Idle;
   };
@@ -54,19 +55,19 @@ given cnvs aggregate cnv = record {
   seq = 1572864 ∷ 201326592 ∷ 4096 ∷ 0 ∷ 2 ∷ 2097152 ∷ 201326592 ∷ 0 ∷ 0 ∷ 2 ∷ [];
 }
 
-abbrev plain : Mounting
-plain = given 2 false (524288 ∷ 268435456 ∷ 268435456 ∷ 0 ∷ 2 ∷ 1048576 ∷ 268435456 ∷ 268435456 ∷ 0 ∷ 2 ∷ [])
+abbrev pub plainUnder : ErrorPolicy → Mounting
+plainUnder p = givenUnder p 2 false (524288 ∷ 268435456 ∷ 268435456 ∷ 0 ∷ 2 ∷ 1048576 ∷ 268435456 ∷ 268435456 ∷ 0 ∷ 2 ∷ [])
 
 abbrev joined : Mounting
-joined = given 1 true (524288 ∷ 536870912 ∷ 536870912 ∷ 0 ∷ 2 ∷ 7 ∷ 7 ∷ 7 ∷ 7 ∷ 7 ∷ [])
+joined = givenUnder Repair 1 true (524288 ∷ 536870912 ∷ 536870912 ∷ 0 ∷ 2 ∷ 7 ∷ 7 ∷ 7 ∷ 7 ∷ 7 ∷ [])
 
-plainly : aggregated (superblock false) ≡ false
+pub plainly : aggregated (superblock false) ≡ false
 plainly = ap (λ (r : SuperRead). r .fields .aggregate) super-plain
 
 jointly : aggregated (superblock true) ≡ true
 jointly = ap (λ (r : SuperRead). r .fields .aggregate) super-joined
 
-mount-plain : mounting false ≡ plain
+mount-plain : mounting false ≡ plainUnder Repair
 unfolding report little recordThen recordsThen reportFrom le split skipEmpty same pieceOf optionsOf
     goodRecord goodZone goodHeader zonesFrom zonesOf goodRun reportCheck
     seqRows runs capacityOf allHealthy cnvRows words fill
@@ -80,7 +81,7 @@ unfolding report little recordThen recordsThen reportFrom le split skipEmpty sam
     mount.refuse checkSuper checkOptions checkReport fitAnswer reportAnswer fileZones mount.answerOf mountOf tableAfter mountAnswer mountOutcome
 mount-joined = rw (super-joined, jointly) refl
 
-computed : map (λ (c : Case). c .given) (casesOf plain joined) ≡ map (λ (c : Case). c .stated) (casesOf plain joined)
+computed : map (λ (c : Case). c .given) (casesOf (plainUnder Repair) joined) ≡ map (λ (c : Case). c .stated) (casesOf (plainUnder Repair) joined)
 unfolding casesOf little recordThen le goodRecord
     rowAt setRow countsFit lookupOf soundRow fileOf calls.refuse atOnce readRow writeRow truncateRow flushRow
     issuable pendingOf completionOf succeeded matchesSequential withinConventional recordFits recoveredRow recovered digestOf

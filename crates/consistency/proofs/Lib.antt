@@ -14,3 +14,4 @@ pub mod Fresh
 pub mod Demand
 pub mod Report
 pub mod Cases
+pub mod Runs

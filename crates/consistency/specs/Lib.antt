@@ -7,3 +7,4 @@ pub mod Claim
 pub mod Demand
 pub mod Frame
 pub mod Cases
+pub mod Runs
