@@ -386,11 +386,11 @@ recovered-parts : (p : ErrorPolicy) (z : DiskZone) (r : Row) → recoveredRow p 
 unfolding recoveredRow
 recovered-parts p z r =
     let size : ruledSize (rule p (conditionOf (reported z)) .size) Sequential (reported z) (r .size) ≡ sizeBy (rule p (z .condition) .size) ((z .pointer - z .start) * 512) (r .size)
-        = ruled-size (rule p (conditionOf (reported z)) .size) (reported z) (r .size)
-        ∙ ap (λ n. sizeBy (rule p (conditionOf (reported z)) .size) n (r .size)) (written-reported z)
-        ∙ ap (λ h. sizeBy (rule p h .size) ((z .pointer - z .start) * 512) (r .size)) (says-condition (reported-shows z)) in
+    = ruled-size (rule p (conditionOf (reported z)) .size) (reported z) (r .size)
+    ∙ ap (λ n. sizeBy (rule p (conditionOf (reported z)) .size) n (r .size)) (written-reported z)
+    ∙ ap (λ h. sizeBy (rule p h .size) ((z .pointer - z .start) * 512) (r .size)) (says-condition (reported-shows z)) in
     let access : ruledAccess (rule p (conditionOf (reported z)) .access) (r .access) ≡ ruledAccess (rule p (z .condition) .access) (r .access)
-        = ap (λ h. ruledAccess (rule p h .access) (r .access)) (says-condition (reported-shows z)) in
+    = ap (λ h. ruledAccess (rule p h .access) (r .access)) (says-condition (reported-shows z)) in
     made size (says-condition (reported-shows z)) access
   where
     made : {n m : ℕ} {h k : Condition} {a b : Access} → n ≡ m → h ≡ k → a ≡ b

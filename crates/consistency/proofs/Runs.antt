@@ -89,6 +89,10 @@ small-runs = record {
   zoneRo = starts ZoneRo "errors=zone-ro" chosen-zone-ro;
   zoneOffline = starts ZoneOffline "errors=zone-offline" chosen-zone-offline;
   repair = starts Repair "errors=repair" chosen-repair;
-  ends = rw (mount-under RemountRo "errors=remount-ro" chosen-remount, mount-under ZoneRo "errors=zone-ro" chosen-zone-ro,
-      mount-under ZoneOffline "errors=zone-offline" chosen-zone-offline, mount-under Repair "errors=repair" chosen-repair) computed;
+  ends = rw (
+    mount-under RemountRo "errors=remount-ro" chosen-remount,
+    mount-under ZoneRo "errors=zone-ro" chosen-zone-ro,
+    mount-under ZoneOffline "errors=zone-offline" chosen-zone-offline,
+    mount-under Repair "errors=repair" chosen-repair,
+  ) computed;
 }
