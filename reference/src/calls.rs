@@ -104,18 +104,22 @@ fn parse_name(name: &[u8]) -> Option<(FileKind, u32)> {
 
 /// What number 10 asks of a row.
 fn is_possible(row: &Row, kind: FileKind, block: u64) -> bool {
-    let whole = |value: u64, unit: u64| value != 0 && value % unit == 0;
+    let whole = |value: u64, unit: u64| value != 0 && value.is_multiple_of(unit);
     let placed = whole(row.start, block / SECTOR)
         && whole(row.capacity, block)
         && sum_within(row.start, row.capacity / SECTOR, DISK_LIMIT);
-    let sized = row.size % block == 0 && row.size <= row.capacity;
-    let open = row.access != Access::None;
-    placed
-        && sized
-        && !(row.condition == Condition::Offline && open)
-        && !(!open && row.size != 0)
-        && !(row.condition == Condition::ReadOnly && row.access == Access::Write)
-        && !(kind == FileKind::Conventional && open && row.size != row.capacity)
+    let sized = row.size.is_multiple_of(block)
+        && match (row.access, kind) {
+            (Access::None, _) => row.size == 0,
+            (_, FileKind::Conventional) => row.size == row.capacity,
+            (_, FileKind::Sequential) => row.size <= row.capacity,
+        };
+    let accessible = match row.condition {
+        Condition::Healthy => true,
+        Condition::ReadOnly => row.access != Access::Write,
+        Condition::Offline => row.access == Access::None,
+    };
+    placed && sized && accessible
 }
 
 /// What a call on a possible row is answered while nothing is outstanding. It doesn't look at the held command.
@@ -165,7 +169,7 @@ fn write(mount: &Mount, kind: FileKind, row: &Row, offset: u64, length: u64) -> 
     if !sum_within(offset, length, row.capacity) {
         return Err(Refusal::BeyondCapacity);
     }
-    let aligned = offset % mount.block == 0 && length % mount.block == 0;
+    let aligned = offset.is_multiple_of(mount.block) && length.is_multiple_of(mount.block);
     if kind == FileKind::Sequential && !(aligned && offset == row.size) {
         return Err(Refusal::NotAppending);
     }

@@ -9,8 +9,8 @@ use std::thread;
 
 use crate::describe::describe;
 use crate::generate::generate;
+use crate::play::{play, Line};
 use crate::tally::Tally;
-use crate::tape::{play, Line};
 
 /// Below this many tapes an answer that was never reached is no failure.
 const ENOUGH_TAPES: u64 = 1000;
@@ -43,7 +43,12 @@ pub fn compare_generated(seed: u64, count: u64, player: &str, keep: Option<&Path
     let failures = results.into_iter().filter_map(|(_, failure)| failure);
     if let Some(failure) = failures.min_by_key(|failure| failure.index) {
         let kept = keep_tape(seed, failure.index, keep)?;
-        return Err(format!("tape {} of seed {seed}: {}\nkept as {}", failure.index, failure.text, kept.display()));
+        return Err(format!(
+            "tape {} of seed {seed}: {}\nkept as {}",
+            failure.index,
+            failure.text,
+            kept.display()
+        ));
     }
     let missing = tally.missing();
     if count >= ENOUGH_TAPES && !missing.is_empty() {
@@ -122,7 +127,8 @@ pub fn compare_output(tape: &[u8], lines: &[Line], output: &[u8]) -> Result<(), 
     let first = same.count();
     let line = |text: Option<&str>| text.map_or("(nothing)".to_string(), |text| format!("{text:?}"));
     let ours = line(lines.get(first).map(|line| line.text.as_str()));
-    let theirs = line(given.get(first).map(|text| text.strip_suffix('\n').unwrap_or("(a line that doesn't end)")));
+    let theirs =
+        line(given.get(first).map(|text| text.strip_suffix('\n').unwrap_or("(a line that doesn't end)")));
     let around = context(tape, lines, first);
     Err(format!("line {} differs\n{around}  this player:  {ours}\n  other player: {theirs}", first + 1))
 }

@@ -2,8 +2,8 @@
 
 use crate::calls::{decide, Reply, Request};
 use crate::types::{
-    sum_within, Access, Command, Condition, FileKind, Held, Mount, Operation, Policy, Refusal, Row,
-    Volume, SECTOR,
+    sum_within, Access, Command, Condition, FileKind, Held, Mount, Operation, Policy, Refusal, Row, Volume,
+    SECTOR,
 };
 use crate::zone::{Zone, RECORD};
 
@@ -89,9 +89,8 @@ fn matches_file(zone: &Zone, kind: FileKind, row: &Row) -> bool {
 fn needs_recovery(held: &Held, row: &Row, zone: &Zone) -> bool {
     let size_agrees = held.kind == FileKind::Conventional
         || (zone.health() == Condition::Healthy && row.size == zone.written());
-    let harmless = held.command.operation == Operation::Read
-        && zone.health() == Condition::Healthy
-        && size_agrees;
+    let harmless =
+        held.command.operation == Operation::Read && zone.health() == Condition::Healthy && size_agrees;
     !harmless
 }
 

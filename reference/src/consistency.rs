@@ -4,9 +4,9 @@
 use crate::calls::{Call, Reply};
 use crate::disk::{Choice, Disk, Mishap, Outcome};
 use crate::mount::Input;
+use crate::play::mount_volume;
 use crate::superblock;
 use crate::tally::Tally;
-use crate::tape::mount_volume;
 use crate::types::{Access, Condition, FileKind, Held, Operation, Policy, Refusal, Row, Volume};
 use crate::zone::{self, Zone, HEADER, RECORD};
 
@@ -143,8 +143,7 @@ impl Run {
         let story = self.story(held.kind, held.number);
         // Only sequential files are compared, so only their recoveries matter.
         if outcome.failed && held.kind == FileKind::Sequential {
-            let as_before =
-                zone.health() == Condition::Healthy && size_if_healthy(&zone) == story.last_size;
+            let as_before = zone.health() == Condition::Healthy && size_if_healthy(&zone) == story.last_size;
             story.recovered |= !(read && as_before);
         }
         story.quiet |= outcome.failed || !read;
@@ -238,7 +237,10 @@ impl Run {
     /// Everything that is needed to see a failed check by hand.
     fn complaint(&self, what: &str) -> String {
         let zones = zone::decode_report(&self.input.report).unwrap_or_default();
-        let mut text = format!("consistency: {what}\n  policy {:?}, block {}", self.volume.mount.policy, self.input.block);
+        let mut text = format!(
+            "consistency: {what}\n  policy {:?}, block {}",
+            self.volume.mount.policy, self.input.block
+        );
         for (number, zone) in zones.iter().enumerate().take(16) {
             text.push_str(&format!("\n  zone {number} at mount: {zone:?}"));
         }

@@ -1,9 +1,9 @@
 //! A tape as text, for people.
 
+use crate::superblock;
 use crate::tape::{Next, Reader, Record, Verb};
 use crate::types::{u32_at, u64_at};
 use crate::zone::{self, Zone};
-use crate::superblock;
 
 /// The first zones of a report are listed, up to this many.
 const ZONES_SHOWN: usize = 24;
@@ -20,7 +20,7 @@ pub fn describe(tape: &[u8]) -> Vec<Described> {
     let mut described = Vec::new();
     loop {
         let at = reader.at;
-        let text = match reader.next() {
+        let text = match reader.read() {
             Next::End => return described,
             Next::Record(record) => record_text(&record),
             Next::Broken => {

@@ -8,7 +8,9 @@ use crate::zone::{Zone, EMPTY, FULL, IMPLICIT_OPEN, OFFLINE, READ_ONLY};
 #[derive(Clone, Copy, Debug, PartialEq, Eq)]
 pub enum Mishap {
     /// The pointer of a healthy sequential zone falls back by so many blocks, at most to the start.
-    Fall { blocks: u64 },
+    Fall {
+        blocks: u64,
+    },
     BecomesReadOnly,
     BecomesOffline,
 }
@@ -112,8 +114,7 @@ impl Disk {
     /// A healthy sequential zone takes a write at its pointer only, a conventional one anywhere.
     fn takes_write(&self, zone: usize, address: u64) -> bool {
         let zone = &self.zones[zone];
-        zone.health() == Condition::Healthy
-            && (zone.is_conventional() || zone.pointer * SECTOR == address)
+        zone.health() == Condition::Healthy && (zone.is_conventional() || zone.pointer * SECTOR == address)
     }
 
     fn carry_out(&mut self, zone: usize, command: &Command) {

@@ -12,6 +12,7 @@ pub mod disk;
 pub mod generate;
 pub mod mount;
 pub mod options;
+pub mod play;
 pub mod random;
 pub mod superblock;
 pub mod tally;

@@ -10,7 +10,7 @@ use std::process::ExitCode;
 use reference::compare::{compare_files, compare_generated};
 use reference::describe::describe;
 use reference::generate::generate;
-use reference::tape::play;
+use reference::play::play;
 
 const HELP: &str = "\
 usage:
@@ -83,12 +83,15 @@ fn run(arguments: &[String]) -> Result<(), Problem> {
             write_out(&sums::as_records(&inputs))
         }
         [] => Err(Problem::Usage("a command is needed".to_string())),
-        [command, ..] => Err(Problem::Usage(format!("unknown command, or wrong arguments for it: {command}"))),
+        [command, ..] => {
+            Err(Problem::Usage(format!("unknown command, or wrong arguments for it: {command}")))
+        }
     }
 }
 
 fn number(name: &str, text: &str) -> Result<u64, Problem> {
-    text.parse().map_err(|_| Problem::Usage(format!("{name} must be a number from 0 to 2^64-1, not {text:?}")))
+    text.parse()
+        .map_err(|_| Problem::Usage(format!("{name} must be a number from 0 to 2^64-1, not {text:?}")))
 }
 
 fn play_tape(file: &str) -> Result<(), Problem> {

@@ -20,7 +20,7 @@ impl Random {
         Random { state }
     }
 
-    pub fn next(&mut self) -> u64 {
+    pub fn word(&mut self) -> u64 {
         self.state = self.state.wrapping_add(0x9E37_79B9_7F4A_7C15);
         mix(self.state)
     }
@@ -30,7 +30,7 @@ impl Random {
         if bound == 0 {
             return 0;
         }
-        self.next() % bound
+        self.word() % bound
     }
 
     /// A number in `low..=high`.
@@ -60,7 +60,7 @@ impl Random {
 
     pub fn fill(&mut self, bytes: &mut [u8]) {
         for chunk in bytes.chunks_mut(8) {
-            let word = self.next().to_le_bytes();
+            let word = self.word().to_le_bytes();
             chunk.copy_from_slice(&word[..chunk.len()]);
         }
     }

@@ -15,7 +15,7 @@ const EXPECTED: [(&str, &[&str]); 8] = [
     ("??", &["40"]),
 ];
 
-/// How often each exception of the consistency check must be met: at least once.
+/// The consistency check allows for so many exceptions.
 pub const EXCEPTIONS: usize = 3;
 
 #[derive(Clone, Debug, Default, PartialEq, Eq)]
@@ -59,9 +59,8 @@ impl Tally {
 
     /// Everything that should have been reached and wasn't.
     pub fn missing(&self) -> Vec<String> {
-        let reached = |mark: &str, answer: &str| {
-            self.answers.contains_key(&(mark.to_string(), answer.to_string()))
-        };
+        let reached =
+            |mark: &str, answer: &str| self.answers.contains_key(&(mark.to_string(), answer.to_string()));
         let mut missing = Vec::new();
         for (mark, answers) in EXPECTED {
             for answer in answers.iter().filter(|answer| !reached(mark, answer)) {

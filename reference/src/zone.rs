@@ -62,7 +62,7 @@ impl Zone {
     /// Every check of a zone but the one on where it starts.
     pub fn is_good(&self, block: u64) -> bool {
         let step = block / SECTOR;
-        let whole = |sectors: u64| sectors != 0 && sectors % step == 0;
+        let whole = |sectors: u64| sectors != 0 && sectors.is_multiple_of(step);
         whole(self.length)
             && whole(self.capacity)
             && self.capacity <= self.length
@@ -86,7 +86,7 @@ impl Zone {
 
     fn pointer_is_good(&self, step: u64) -> bool {
         let end = self.start + self.capacity;
-        self.start <= self.pointer && self.pointer <= end && self.pointer % step == 0
+        self.start <= self.pointer && self.pointer <= end && self.pointer.is_multiple_of(step)
     }
 }
 

@@ -47,7 +47,7 @@ pub fn spoil_end(random: &mut Random, tape: &mut Vec<u8>) {
 fn starts(tape: &[u8]) -> Vec<usize> {
     let mut reader = Reader::new(tape);
     let mut starts = vec![0];
-    while let Next::Record(_) = reader.next() {
+    while let Next::Record(_) = reader.read() {
         starts.push(reader.at);
     }
     starts
@@ -63,7 +63,8 @@ fn cut(random: &mut Random, mut tape: Vec<u8>) -> Vec<u8> {
 
 fn cut_at_a_record(random: &mut Random, tape: &[u8]) -> Vec<u8> {
     let starts = starts(tape);
-    let at = if random.percent(50) { random.pick(&starts[..starts.len().min(6)]) } else { random.pick(&starts) };
+    let at =
+        if random.percent(50) { random.pick(&starts[..starts.len().min(6)]) } else { random.pick(&starts) };
     let slip = random.pick(&[0, 0, 1, 2, 3]);
     tape[..(at + slip).min(tape.len())].to_vec()
 }
@@ -96,7 +97,12 @@ fn insert(random: &mut Random, tape: &[u8]) -> Vec<u8> {
     let at = random.pick(&starts(tape));
     let mut result = tape[..at].to_vec();
     let call = any_call(random);
-    let record = random.pick(&[Record::Block(4096), Record::Options(b"errors=repair"), Record::Good, Record::Call(call)]);
+    let record = random.pick(&[
+        Record::Block(4096),
+        Record::Options(b"errors=repair"),
+        Record::Good,
+        Record::Call(call),
+    ]);
     encode(&record, &mut result);
     result.extend_from_slice(&tape[at..]);
     result

@@ -22,8 +22,8 @@ pub fn call(random: &mut Random, volume: &Volume) -> CallRecord {
     let (offset, length) = match verb {
         Verb::Read => read_arguments(random, &row, block),
         Verb::Write => write_arguments(random, &row, block, kind == 1),
-        Verb::Truncate => (random.next(), truncate_size(random, &row, block)),
-        Verb::Flush => (random.next(), random.next()),
+        Verb::Truncate => (random.word(), truncate_size(random, &row, block)),
+        Verb::Flush => (random.word(), random.word()),
     };
     CallRecord { verb, kind, number, offset, length }
 }

@@ -12,15 +12,15 @@ use crate::zone::{self, Zone, HEADER, RECORD};
 /// A tape with a refused mount. What follows the mount must not be looked at.
 pub fn tape(random: &mut Random) -> Vec<u8> {
     let mut shape = shape::shape(random);
-    // A bad zone is among many things to get wrong, so it has its own share.
-    let bad_zones = random.percent(45);
+    // There are many ways for a zone to be bad, so they have a large share.
+    let bad_zones = random.percent(50);
     if bad_zones {
         for _ in 0..random.pick(&[1, 1, 1, 2]) {
             spoil_zone(random, &mut shape.zones, u64::from(shape.block) / SECTOR);
         }
     }
     let mut input = shape::input(random, &shape);
-    let faults = random.pick(if bad_zones { &[0, 0, 0, 1] } else { &[1, 1, 1, 2, 2, 3] });
+    let faults = random.pick(if bad_zones { &[0, 0, 0, 1] } else { &[1, 1, 1, 1, 2, 2, 3] });
     for _ in 0..faults {
         spoil(random, &mut input);
     }
@@ -45,7 +45,10 @@ pub fn head(input: &Input) -> Vec<u8> {
 
 fn spoil(random: &mut Random, input: &mut Input) {
     match random.weighted(&[10, 10, 10, 10, 10, 10, 30, 15]) {
-        0 => input.block = random.pick(&[0, 1, 2, 16, 511, 513, 1024, 2048, 4095, 4097, 8192, 0xFE00, u16::MAX]),
+        0 => {
+            input.block =
+                random.pick(&[0, 1, 2, 16, 511, 513, 1024, 2048, 4095, 4097, 8192, 0xFE00, u16::MAX])
+        }
         1 => spoil_magic(random, &mut input.super_block),
         2 => spoil_checksum(random, &mut input.super_block),
         3 => spoil_features(random, &mut input.super_block),
@@ -126,17 +129,43 @@ fn spoil_header(random: &mut Random, report: &mut Vec<u8>) {
     }
 }
 
+/// Each is wrong in its own way.
+const BAD_OPTIONS: [&str; 30] = [
+    "errors=",
+    "errors",
+    "errors=x",
+    "errors=repair ",
+    " errors=repair",
+    "Errors=repair",
+    "errors=REPAIR",
+    "errors=repair,x",
+    "x,errors=repair",
+    "errors=repair\0",
+    "errors=repairs",
+    "errors=repai",
+    "error=repair",
+    "errors=zone-ro;errors=repair",
+    "explicit-open",
+    "errors=remount_ro",
+    "errors=errors=repair",
+    "errors=repair=",
+    "errors=zone-",
+    "errors=zone-off",
+    "repair",
+    "=repair",
+    "errors:repair",
+    "errors=remount-ro,errors=",
+    " ",
+    "\0",
+    ", ,",
+    "errors=repair,errors=zone-r",
+    "errors=zone-offlin",
+    "errors==repair",
+];
+
 fn bad_options(random: &mut Random) -> Vec<u8> {
-    const BAD: [&str; 30] = [
-        "errors=", "errors", "errors=x", "errors=repair ", " errors=repair", "Errors=repair",
-        "errors=REPAIR", "errors=repair,x", "x,errors=repair", "errors=repair\0", "errors=repairs",
-        "errors=repai", "error=repair", "errors=zone-ro;errors=repair", "explicit-open",
-        "errors=remount_ro", "errors=errors=repair", "errors=repair=", "errors=zone-", "errors=zone-off",
-        "repair", "=repair", "errors:repair", "errors=remount-ro,errors=", " ", "\0", ", ,",
-        "errors=repair,errors=zone-r", "errors=zone-offlin", "errors==repair",
-    ];
     if random.percent(75) {
-        return random.pick(&BAD).as_bytes().to_vec();
+        return random.pick(&BAD_OPTIONS).as_bytes().to_vec();
     }
     let mut noise = vec![0; random.between(1, 255) as usize];
     random.fill(&mut noise);
@@ -156,7 +185,7 @@ fn spoil_zone(random: &mut Random, zones: &mut [Zone], step: u64) {
         _ => random.below(zones.len() as u64) as usize,
     };
     let zone = &mut zones[number];
-    match random.below(5) {
+    match random.weighted(&[20, 20, 30, 20, 10]) {
         0 => spoil_place(random, zone, step),
         1 => spoil_capacity(random, zone, step),
         2 => spoil_type(random, zone),
@@ -203,10 +232,10 @@ fn spoil_capacity(random: &mut Random, zone: &mut Zone, step: u64) {
 }
 
 fn spoil_type(random: &mut Random, zone: &mut Zone) {
-    if random.percent(50) {
-        zone.kind = random.pick(&[0, 1, 2, 3, 4, 128, 255]);
+    if random.percent(40) {
+        zone.kind = random.pick(&[0, 1, 2, 3, 4, 255]);
     } else {
-        zone.condition = random.pick(&[0, 1, 2, 4, 5, 6, 12, 13, 14, 15, 16, 128, 255]);
+        zone.condition = random.pick(&[0, 1, 4, 5, 12, 13, 14, 14, 15, 16, 255]);
     }
 }
 

@@ -8,8 +8,9 @@ use super::Generated;
 use crate::consistency::Run;
 use crate::disk::{Choice, Mishap};
 use crate::mount::Input;
+use crate::play::mount_volume;
 use crate::random::Random;
-use crate::tape::{encode, mount_volume, Record};
+use crate::tape::{encode, Record};
 use crate::types::{Command, Condition, FileKind, Held, Operation, Row, Volume, DISK_LIMIT, SECTOR};
 use crate::zone::{self, Zone, RECORD};
 

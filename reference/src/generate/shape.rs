@@ -46,7 +46,8 @@ fn zone_count(random: &mut Random) -> u64 {
 /// Like most disks: zones of one length, conventional ones together; and unlike: everything at random.
 fn zones(random: &mut Random, step: u64, count: u64, capacity_given: bool) -> Vec<Zone> {
     let common = zone_length(random, step);
-    let (same_length, stay, ill) = (random.percent(60), random.pick(&[0, 60, 90]), random.pick(&[0, 0, 10, 30]));
+    let (same_length, stay, ill) =
+        (random.percent(60), random.pick(&[0, 60, 90]), random.pick(&[0, 0, 10, 30]));
     let mut conventional = random.percent(60);
     let mut start = 0;
     let mut zones = Vec::new();
@@ -146,7 +147,9 @@ pub fn super_block(random: &mut Random, features: u64) -> Vec<u8> {
     random.fill(&mut bytes[8..superblock::TAIL_AT]);
     bytes[..4].copy_from_slice(&superblock::MAGIC.to_le_bytes());
     put(&mut bytes, superblock::FEATURES_AT, &features.to_le_bytes());
-    for (bit, at) in [(superblock::HAS_OWNER, superblock::OWNER_AT), (superblock::HAS_GROUP, superblock::GROUP_AT)] {
+    for (bit, at) in
+        [(superblock::HAS_OWNER, superblock::OWNER_AT), (superblock::HAS_GROUP, superblock::GROUP_AT)]
+    {
         let used = features & bit != 0;
         // An id that isn't in use may be anything; one that is may be anything but all ones.
         let id = if used { random.pick(&[0, 1000, u32::MAX - 1]) } else { random.pick(&[0, 7, u32::MAX]) };

@@ -114,8 +114,17 @@ fn names() {
     assert_eq!(volume.find(b"cnv/0"), Ok((CNV, 0)));
     assert_eq!(volume.find(b"seq/1"), Ok((SEQ, 1)));
     let nothing: [&[u8]; 11] = [
-        b"seq/07", b"seq/1 ", b"seq/", b"seq", b"seq/2", b"cnv/00", b"Seq/1", b"seq/+1", b"seq/-0",
-        b"seq/4294967296", b"/seq/1",
+        b"seq/07",
+        b"seq/1 ",
+        b"seq/",
+        b"seq",
+        b"seq/2",
+        b"cnv/00",
+        b"Seq/1",
+        b"seq/+1",
+        b"seq/-0",
+        b"seq/4294967296",
+        b"/seq/1",
     ];
     for name in nothing {
         assert_eq!(volume.find(name), Err(Refusal::NoSuchFile), "{}", name.escape_ascii());

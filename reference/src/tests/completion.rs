@@ -56,12 +56,18 @@ fn recovery_table() {
     ];
     let conditions = [Condition::Healthy, Condition::ReadOnly, Condition::Offline];
     for (options, cells) in OPTIONS.iter().zip(table) {
-        for ((size, access, cnv_size), (index, condition)) in cells.into_iter().zip(conditions.into_iter().enumerate()) {
+        for ((size, access, cnv_size), (index, condition)) in
+            cells.into_iter().zip(conditions.into_iter().enumerate())
+        {
             let mut volume = sheet_under(options);
             let before = volume.clone();
             volume.call(&write(SEQ, 0, 4096, 8192)).unwrap();
             assert_eq!(volume.fail(&sequential(1572880, [2, 13, 15][index]), true), Ok(size));
-            assert_eq!(volume.seq[0], Row { size, access, condition, ..before.seq[0] }, "{options} {condition:?}");
+            assert_eq!(
+                volume.seq[0],
+                Row { size, access, condition, ..before.seq[0] },
+                "{options} {condition:?}"
+            );
             assert_eq!(volume.mount.read_only, *options == "errors=remount-ro");
             assert_eq!((volume.mount.held, &volume.cnv, volume.seq[1]), (None, &before.cnv, before.seq[1]));
 
@@ -137,7 +143,9 @@ fn records_that_do_not_fit() {
 fn conventional_records_lie_within_the_file() {
     let mut volume = mount_volume(&input_with(1, "", &sheet_zones())).unwrap();
     volume.call(&write(CNV, 0, 0, 5)).unwrap();
-    for (start, length) in [(0, 524288), (524288 - 8, 16), (1048576, 524296), (1572864, 8), (u64::MAX - 7, 16)] {
+    for (start, length) in
+        [(0, 524288), (524288 - 8, 16), (1048576, 524296), (1572864, 8), (u64::MAX - 7, 16)]
+    {
         let zone = zone(start, length, 0, 1, 0, length);
         assert_eq!(volume.fail(&record(&zone), true), Err(Refusal::RecordMismatch), "{zone:?}");
     }

@@ -1,9 +1,9 @@
 //! The generator: the same tapes for the same seed, other ones for another, and a check that holds.
 
 use crate::generate::generate;
+use crate::play::play;
 use crate::random::Random;
 use crate::tally::Tally;
-use crate::tape::play;
 
 #[test]
 fn tapes_follow_from_the_seed() {
@@ -18,8 +18,8 @@ fn tapes_follow_from_the_seed() {
 #[test]
 fn random_numbers_are_splitmix64() {
     let mut random = Random::with_state(0);
-    assert_eq!(random.next(), 0xE220A8397B1DCDAF);
-    assert_eq!(random.next(), 0x6E789E6AA1B965F4);
+    assert_eq!(random.word(), 0xE220A8397B1DCDAF);
+    assert_eq!(random.word(), 0x6E789E6AA1B965F4);
 }
 
 #[test]
@@ -45,5 +45,8 @@ fn missing_answers_are_named() {
     let missing = tally.missing();
     assert_eq!(missing.len(), all.len() - 3);
     assert!(!missing.contains(&"MO 29".to_string()) && !missing.contains(&"RD R".to_string()));
-    assert_eq!(tally.summary().split(", nonzero").next(), Some("0 tapes, 3 lines alike (MO 29=1; OK 0=1; RD R=1)"));
+    assert_eq!(
+        tally.summary().split(", nonzero").next(),
+        Some("0 tapes, 3 lines alike (MO 29=1; OK 0=1; RD R=1)")
+    );
 }

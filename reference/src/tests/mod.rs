@@ -10,7 +10,7 @@ mod tape;
 
 use crate::calls::{Call, Reply, Request};
 use crate::mount::Input;
-use crate::tape::mount_volume;
+use crate::play::mount_volume;
 use crate::types::{FileKind, Refusal, Volume};
 use crate::zone::Zone;
 

@@ -81,11 +81,13 @@ fn bad_zone(third: Zone) -> Option<usize> {
     }
 }
 
+/// Zone 3 of the sheet: start, length and capacity.
+const S: u64 = 1572864;
+const L: u64 = 524288;
+const C: u64 = 393216;
+
 #[test]
-fn sequential_zones() {
-    const S: u64 = 1572864;
-    const L: u64 = 524288;
-    const C: u64 = 393216;
+fn good_sequential_zones() {
     let good = [
         zone(S, L, S + C, 3, 14, C),
         zone(S, L, S + C, 2, 1, C),
@@ -97,6 +99,10 @@ fn sequential_zones() {
     for zone in good {
         assert_eq!(bad_zone(zone), None, "{zone:?}");
     }
+}
+
+#[test]
+fn bad_sequential_zones() {
     let bad = [
         zone(S + 8, L, S + 8, 2, 2, C),
         zone(S - 8, L, S, 2, 2, C),
@@ -125,7 +131,6 @@ fn sequential_zones() {
 
 #[test]
 fn conventional_zones() {
-    const S: u64 = 1572864;
     for condition in [0, 13, 15] {
         assert_eq!(bad_zone(zone(S, 524288, u64::MAX, 1, condition, 524288)), None);
     }
@@ -177,9 +182,11 @@ fn ill_zones_are_kept_offline() {
 #[test]
 fn runs() {
     let kinds = [1, 1, 2, 1, 1, 1, 3];
-    let zones: Vec<Zone> = kinds.iter().zip(0..).map(|(&kind, number)| {
-        zone(number * 8, 8, number * 8, kind, u8::from(kind != 1), 8)
-    }).collect();
+    let zones: Vec<Zone> = kinds
+        .iter()
+        .zip(0..)
+        .map(|(&kind, number)| zone(number * 8, 8, number * 8, kind, u8::from(kind != 1), 8))
+        .collect();
     let volume = mount_volume(&input_with(1, "", &zones)).unwrap();
     assert_eq!((volume.mount.cnv_files, volume.mount.seq_files), (2, 2));
     let place = |row: &Row| (row.start, row.capacity);
@@ -208,7 +215,10 @@ fn order_of_checks() {
     assert_eq!(changed(|input| (input.super_block[0], input.super_block[4]) = (0, 0)), 22);
     assert_eq!(changed(|input| (input.super_block[88], input.super_block[200]) = (16, 1)), 23);
     assert_eq!(changed_super_block(88, &[0x1F, 0, 0, 0, 0, 0, 0, 0, 0xFF, 0xFF, 0xFF, 0xFF]), 24);
-    assert_eq!(changed_super_block(88, &[2, 0, 0, 0, 0, 0, 0, 0, 0xFF, 0xFF, 0xFF, 0xFF, 0, 0, 0, 0, 0, 0, 0, 0, 1]), 25);
+    assert_eq!(
+        changed_super_block(88, &[2, 0, 0, 0, 0, 0, 0, 0, 0xFF, 0xFF, 0xFF, 0xFF, 0, 0, 0, 0, 0, 0, 0, 0, 1]),
+        25
+    );
     assert_eq!(changed(|input| (input.options, input.report[0]) = (b"x".to_vec(), 1)), 27);
     assert_eq!(changed(|input| (input.report[0], input.report[16]) = (1, 1)), 28);
 }
@@ -229,7 +239,16 @@ fn options() {
     for (text, policy) in good {
         assert_eq!(parse(text.as_bytes()), Ok(policy), "{text}");
     }
-    for text in ["errors=", "errors", "repair", "errors=repair ", " ", "errors=Repair", "errors=repair,x", "errors=zone"] {
+    for text in [
+        "errors=",
+        "errors",
+        "repair",
+        "errors=repair ",
+        " ",
+        "errors=Repair",
+        "errors=repair,x",
+        "errors=zone",
+    ] {
         assert_eq!(parse(text.as_bytes()), Err(Refusal::Options), "{text}");
     }
     assert_eq!(parse(&[b','; 255]), Ok(Policy::RemountReadOnly));

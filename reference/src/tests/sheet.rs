@@ -2,7 +2,8 @@
 
 use super::*;
 use crate::calls::Reply::{Done, Issued};
-use crate::tape::{encode, play, CallRecord, Record, Verb};
+use crate::play::play;
+use crate::tape::{encode, CallRecord, Record, Verb};
 use crate::types::{Access, Command, Operation};
 
 fn command(operation: Operation, address: u64, length: u64) -> Reply {

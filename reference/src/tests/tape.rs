@@ -2,7 +2,8 @@
 
 use super::*;
 use crate::compare::compare_output;
-use crate::tape::{encode, play, CallRecord, Record, Verb};
+use crate::play::play;
+use crate::tape::{encode, CallRecord, Record, Verb};
 
 fn head() -> Vec<u8> {
     let input = sheet_input();
@@ -76,12 +77,20 @@ fn bad_zone_is_named() {
 #[test]
 fn bytes_of_calls() {
     let mut tape = head();
-    tape.extend_from_slice(b"RD\x01\x00\x00\x00\x00\x01\x00\x00\x00\x00\x00\x00\x00\x05\x00\x00\x00\x00\x00\x00\x00");
-    tape.extend_from_slice(b"FL\x02\x00\x00\x00\x00\x01\x00\x00\x00\x00\x00\x00\x00\x05\x00\x00\x00\x00\x00\x00\x00");
-    tape.extend_from_slice(b"WR\x00\x01\x00\x00\x00\x01\x00\x00\x00\x00\x00\x00\x00\x05\x00\x00\x00\x00\x00\x00\x00");
+    tape.extend_from_slice(
+        b"RD\x01\x00\x00\x00\x00\x01\x00\x00\x00\x00\x00\x00\x00\x05\x00\x00\x00\x00\x00\x00\x00",
+    );
+    tape.extend_from_slice(
+        b"FL\x02\x00\x00\x00\x00\x01\x00\x00\x00\x00\x00\x00\x00\x05\x00\x00\x00\x00\x00\x00\x00",
+    );
+    tape.extend_from_slice(
+        b"WR\x00\x01\x00\x00\x00\x01\x00\x00\x00\x00\x00\x00\x00\x05\x00\x00\x00\x00\x00\x00\x00",
+    );
     tape.extend_from_slice(b"NO");
     tape.extend_from_slice(&record(&zone(1572864, 524288, 1572880, 3, 4, 393216)));
-    tape.extend_from_slice(b"OKTR\x01\x01\x00\x00\x00\x01\x00\x00\x00\x00\x00\x00\x00\x00\x00\x00\x00\x00\x00\x00\x00");
+    tape.extend_from_slice(
+        b"OKTR\x01\x01\x00\x00\x00\x01\x00\x00\x00\x00\x00\x00\x00\x00\x00\x00\x00\x00\x00\x00\x00",
+    );
     let expected = ["MO 0 2 2", "RD 0 R 805306369 5", "FL 1", "WR 2", "NO 7 8192", "OK 8", "TR 3"];
     assert_eq!(lines(&tape), expected);
 }
@@ -93,7 +102,12 @@ fn differences_are_shown() {
     encode(&Record::Call(call), &mut tape);
     let ours = play(&tape);
     assert_eq!(compare_output(&tape, &ours, b"MO 0 2 2\nWR 0 W 805310464 8192\n"), Ok(()));
-    for other in ["MO 0 2 2\nWR 6\n", "MO 0 2 2\n", "MO 0 2 2\nWR 0 W 805310464 8192", "MO 0 2 2\nWR 0 W 805310464 8192\n\n"] {
+    for other in [
+        "MO 0 2 2\nWR 6\n",
+        "MO 0 2 2\n",
+        "MO 0 2 2\nWR 0 W 805310464 8192",
+        "MO 0 2 2\nWR 0 W 805310464 8192\n\n",
+    ] {
         let shown = compare_output(&tape, &ours, other.as_bytes()).unwrap_err();
         assert!(shown.contains("WR seq/0 offset 4096 length 8192"), "{shown}");
         let place = if other.ends_with("\n\n") { "line 3 differs" } else { "line 2 differs" };
