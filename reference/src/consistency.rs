@@ -78,7 +78,10 @@ impl Run {
         let before = self.volume.clone();
         let result = self.volume.call(call);
         self.entries.push(Entry::Call(*call, result));
-        self.check_frame(&before, Some((call.kind, call.number)))?;
+        if result.is_err() && self.volume != before {
+            return Err(self.complaint("a refused call moved something"));
+        }
+        self.check_frame(&before, call.kind, call.number)?;
         self.end_entry()
     }
 
@@ -102,7 +105,9 @@ impl Run {
         if answer != Err(Refusal::NothingOutstanding) {
             return Err(self.complaint(&format!("an idle completion is answered {answer:?}")));
         }
-        self.check_frame(&before, None)?;
+        if self.volume != before {
+            return Err(self.complaint("an idle completion moved something"));
+        }
         self.end_entry()
     }
 
@@ -130,7 +135,7 @@ impl Run {
             let number = refusal.number();
             return Err(self.complaint(&format!("a truthful completion is answered {number}")));
         }
-        self.check_frame(&before, Some((held.kind, held.number)))?;
+        self.check_frame(&before, held.kind, held.number)?;
         self.note_completion(&held, &outcome);
         self.end_entry()?;
         Ok(Some(record))
@@ -163,14 +168,12 @@ impl Run {
     }
 
     /// Only the row that is concerned may have changed, and beyond it only the held command and the mark.
-    fn check_frame(&self, before: &Volume, concerned: Option<(FileKind, u32)>) -> Result<(), String> {
+    fn check_frame(&self, before: &Volume, kind: FileKind, number: u32) -> Result<(), String> {
         let mut expected = before.clone();
         expected.mount.held = self.volume.mount.held;
         expected.mount.read_only = self.volume.mount.read_only;
-        if let Some((kind, number)) = concerned {
-            if let Some(row) = self.volume.rows(kind).get(number as usize) {
-                *expected.row_mut(kind, number) = *row;
-            }
+        if let Some(row) = self.volume.rows(kind).get(number as usize) {
+            *expected.row_mut(kind, number) = *row;
         }
         if expected != self.volume {
             return Err(self.complaint("something moved beside the row that was concerned"));
