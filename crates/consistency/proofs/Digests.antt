@@ -1,0 +1,95 @@
+-- What the digest of a ready command does to the words of its table.
+-- Assumes nothing.
+use Prim.Native.Nat.{ℕ, _+_, _*_, _≤_, _<_}
+use mathlib.Core.Path.{_≡_, refl, ap, _∙_, sym, subst}
+use mathlib.Core.Bool.{Bool, true, false, cond}
+use mathlib.Core.List.{List}
+use lib.ListN.{length}
+use Rattle.types.specs.declared.Mount.{Mount}
+use Rattle.types.specs.declared.Row.{Row}
+use Rattle.types.specs.declared.Held.{Held}
+use Rattle.types.specs.declared.Command.{Command}
+use Rattle.types.specs.declared.FileKind.{FileKind}
+use Rattle.types.specs.declared.FileKind.the-variants.{Conventional, Sequential}
+use Rattle.types.specs.declared.Refusal.the-variants as refusal
+use Rattle.types.specs.declared.Answer.{Answer}
+use Rattle.types.specs.declared.Answer.the-variants.{Refused, Done, Issue}
+use Rattle.types.specs.declared.ErrorPolicy.{ErrorPolicy}
+use Rattle.types.specs.declared.ErrorPolicy.the-variants.{RemountRo, ZoneRo, ZoneOffline, Repair}
+use Rattle.types.specs.declared.Outstanding.the-variants.{Idle, Busy}
+use Rattle.types.specs.Mounts.{cleared}
+use Rattle.table.specs.Rows.{rowsLent}
+use Rattle.calls.specs.Checks.{ofKind}
+use Rattle.calls.proofs.Laws.{reached-lent}
+use Rattle.zones.specs.declared.Zone.{Zone}
+use Rattle.completion.specs.declared.Digest.{Digest}
+use Rattle.completion.specs.declared.Store.{Store}
+use Rattle.completion.specs.declared.Store.the-variants as store
+use Rattle.completion.specs.declared.held.Pending.the-variants as pending
+use Rattle.completion.specs.Held.{pendingOf, Ready}
+use Rattle.completion.specs.Completions.{Completion, good, failed, stored, countOf, rowAfter, succeeded, nothingLost, recoveredRow, markedBy, failing, recovering, recovered, recordFits, digestOf, digestPending}
+use Rattle.completion.proofs.Laws.{pending-ready}
+use Rattle.consistency.proofs.Bridge.{Became, set-became, still-became}
+use Rattle.consistency.proofs.Keeps.{failedRow}
+
+abbrev pub holdOf : FileKind → ℕ → Command → Held
+holdOf k n c = record { kind = k; number = n; command = c }
+
+-- a digest that leaves row n of a table as `new`, and the other table as it was
+pub record Digested (m : Mount) (c s : List ℕ) (k : FileKind) (n : ℕ) (new : Row) (a : Answer) (d : Digest) : Type 0 where
+  pub answer : d .outcome .answer ≡ a
+  pub volume : d .outcome .mount .volume ≡ m .volume
+  pub idle : d .outcome .mount .outstanding ≡ Idle
+  pub here : Became (ofKind k c s) n new (stored k (d .store) (ofKind k c s))
+  pub other : (j : FileKind) (t : List ℕ) → (k ≡ j → ⊥) → stored j (d .store) t ≡ t
+
+stored-here : (k : FileKind) (n : ℕ) (r : Row) (t : List ℕ) → n < rowsLent (length t) → Became t n r (stored k (store.Put k n r) t)
+stored-here Conventional n r t h = set-became t n r h
+stored-here Sequential n r t h = set-became t n r h
+
+stored-other : (k : FileKind) (n : ℕ) (r : Row) (j : FileKind) (t : List ℕ) → (k ≡ j → ⊥) → stored j (store.Put k n r) t ≡ t
+stored-other Conventional n r Conventional t d = absurd (d refl)
+stored-other Conventional n r Sequential t d = refl
+stored-other Sequential n r Conventional t d = refl
+stored-other Sequential n r Sequential t d = absurd (d refl)
+
+module _ (m : Mount) (c s : List ℕ) (k : FileKind) (n : ℕ) (d : Command) (r : Row) (w : Ready m c s (holdOf k n d) r) where
+  lent : n < rowsLent (length (ofKind k c s))
+  lent = reached-lent (m .volume) c s k n r (w .reached)
+
+  succeeded-so : Digested m c s k n (rowAfter k d r) (Done (countOf (d .kind) (d .length))) (succeeded m (holdOf k n d) r)
+  unfolding succeeded
+  succeeded-so = record { answer = refl; volume = refl; idle = refl; here = stored-here k n (rowAfter k d r) (ofKind k c s) lent; other = stored-other k n (rowAfter k d r) }
+
+  marked : (p : ErrorPolicy) → (markedBy p (cleared m) .volume ≡ m .volume) × (markedBy p (cleared m) .outstanding ≡ Idle)
+  marked RemountRo = (refl, refl)
+  marked ZoneRo = (refl, refl)
+  marked ZoneOffline = (refl, refl)
+  marked Repair = (refl, refl)
+
+  recovered-so : (z : Zone) → let new = failedRow k (m .volume .policy) d z r in Digested m c s k n new (Refused (refusal.Failed (new .size))) (recovered m (holdOf k n d) r z)
+  unfolding recovered
+  recovered-so z = by (nothingLost k (d .kind) z (r .size))
+    where
+      new : Row
+      new = recoveredRow (m .volume .policy) k z r
+
+      by : (x : Bool) → Digested m c s k n (cond x r (recoveredRow (m .volume .policy) k z r)) (Refused (refusal.Failed (cond x r (recoveredRow (m .volume .policy) k z r) .size)))
+          (cond x (failing (cleared m) r store.Nothing) (recovering m (holdOf k n d) (recoveredRow (m .volume .policy) k z r)))
+      by true = record { answer = refl; volume = refl; idle = refl; here = still-became (ofKind k c s) n r (w .reached .row); other = λ j t e. refl }
+      by false = record {
+        answer = refl;
+        volume = marked (m .volume .policy) .0;
+        idle = marked (m .volume .policy) .1;
+        here = stored-here k n (recoveredRow (m .volume .policy) k z r) (ofKind k c s) lent;
+        other = stored-other k n (recoveredRow (m .volume .policy) k z r);
+      }
+
+  pub good-digested : Digested m c s k n (rowAfter k d r) (Done (countOf (d .kind) (d .length))) (digestOf m c s good)
+  unfolding digestOf
+  good-digested = rw (pending-ready m c s (holdOf k n d) r w) succeeded-so
+
+  pub failed-digested : (z : Zone) → recordFits (m .volume .block) k r z ≡ true
+      → let new = failedRow k (m .volume .policy) d z r in Digested m c s k n new (Refused (refusal.Failed (new .size))) (digestOf m c s (failed z))
+  unfolding digestOf
+  failed-digested z f = rw (pending-ready m c s (holdOf k n d) r w, f) (recovered-so z)

@@ -1,0 +1,17 @@
+pub mod Whole
+pub mod Sound
+pub mod Keeps
+pub mod Promised
+pub mod Frame
+pub mod Bridge
+pub mod Files
+pub mod Fits
+pub mod Digests
+pub mod Steps
+pub mod Mounts
+pub mod Start
+pub mod Fresh
+pub mod Demand
+pub mod Report
+pub mod Cases
+pub mod Runs

@@ -1,0 +1,121 @@
+-- The starred cases of the paper, in its order: "proved as a single table with one claim about the definitions". All of it from bytes.
+-- "Block 4096, five zones of 524288 sectors; 0 to 2 conventional; zone 3 sequential, condition 2, start 1572864, capacity 393216
+-- (201326592 bytes), pointer 1572872; zone 4 alike in capacity, empty; repair."
+use mathlib.Core.Bool.{Bool, true, false, cond}
+use mathlib.Core.List.{List, [], _∷_, _++_, map}
+use mathlib.Core.Path.{_≡_}
+use Prim.Native.Nat.{ℕ, _*_}
+use lib.ListN.{replicate}
+use Rattle.types.specs.declared.FileKind.the-variants.{Conventional, Sequential}
+use Rattle.types.specs.declared.Mount.{Mount}
+use Rattle.types.specs.declared.Call.{Call}
+use Rattle.types.specs.declared.Answer.{Answer}
+use Rattle.types.specs.Numbers.{answerNumber, answerValues, mountNumber, mountValues}
+use Rattle.table.specs.Rows.{wordAt}
+use Rattle.options.specs.Text.{ascii}
+use Rattle.zones.specs.declared.Zone.{Zone}
+use Rattle.mount.specs.Mount.{Mounting, mountOutcome}
+use Rattle.calls.specs.Calls.{outcomeOf}
+use Rattle.completion.specs.declared.Digest.{Digest}
+use Rattle.completion.specs.Completions.{completionOf, digestOf, stored}
+use Rattle.consistency.specs.Report.{little, recordThen, reportFrom}
+
+-- ---- what the cases stand on
+
+-- the zone of a number: its type, its condition, its capacity and its pointer
+abbrev pub zone : ℕ → ℕ → ℕ → ℕ → ℕ → Zone
+zone number kind condition capacity pointer =
+    record { start = number * 524288; length = 524288; pointer = pointer; kind = kind; condition = condition; capacity = capacity }
+
+unfoldable pub report : List ℕ
+report =
+    reportFrom (zone 0 1 0 524288 0 ∷ zone 1 1 0 524288 0 ∷ zone 2 1 0 524288 0 ∷ zone 3 2 2 393216 1572872 ∷ zone 4 2 1 393216 2097152 ∷ [])
+
+-- the last four bytes of the uuid, chosen such that the checksum's register is 0 where the zeros begin: so is the checksum then, and
+-- 4,096 bytes of it are soon computed
+abbrev pub uuidEnd : Bool → List ℕ
+uuidEnd false = 10 ∷ 75 ∷ 120 ∷ 231 ∷ []
+uuidEnd true = 75 ∷ 77 ∷ 9 ∷ 60 ∷ []
+
+-- magic, checksum, label, uuid, features, zeros: a super block with feature bit 0 clear or set
+unfoldable pub superblock : Bool → List ℕ
+superblock aggregate =
+    little 4 0x5A4F4653 ++ (little 4 0 ++ (replicate 64 0 ++ ((1 ∷ 2 ∷ 3 ∷ 4 ∷ 5 ∷ 6 ∷ 7 ∷ 8 ∷ 9 ∷ 10 ∷ 11 ∷ 12 ∷ []) ++ (uuidEnd aggregate ++
+    (little 8 (cond aggregate 1 0) ++ replicate 4000 0)))))
+
+-- two rows of either kind are lent, with some words in them
+abbrev pub lent : List ℕ
+lent = replicate 10 7
+
+-- the mount, without aggregation and with it
+abbrev pub mounting : Bool → Mounting
+mounting aggregate = mountOutcome 4096 (superblock aggregate) (ascii "errors=repair") report lent lent
+
+-- ---- what is asked of them
+
+abbrev pub numbered : Answer → List ℕ
+numbered a = answerNumber a ∷ answerValues a
+
+-- the mount's answer, and the sizes of the rows of a table
+abbrev pub mountedFiles : Mounting → List ℕ
+mountedFiles o = mountNumber (o .answer) ∷ mountValues (o .answer)
+
+abbrev pub sizeIn : List ℕ → ℕ → ℕ
+sizeIn table row = wordAt table row 2
+
+abbrev pub accessIn : List ℕ → ℕ → ℕ
+accessIn table row = wordAt table row 4
+
+-- a call on a seq file: number and values of its answer
+abbrev pub callOn : Mounting → ℕ → Call → List ℕ
+callOn o n x = numbered (outcomeOf (o .mount) (o .cnv) (o .seq) Sequential n x .answer)
+
+-- "write 8192 at 4096 fails" with this record
+abbrev pub failedBy : Mounting → Zone → Digest
+failedBy o r = digestOf (outcomeOf (o .mount) (o .cnv) (o .seq) Sequential 0 (Call.Write 4096 8192) .mount) (o .cnv) (o .seq) (completionOf true (recordThen r []))
+
+-- number and values of the answer, and then the row's size and access (0 none, 1 read, 2 write)
+abbrev pub failedWrite : Mounting → Zone → List ℕ
+failedWrite o r =
+    numbered (failedBy o r .outcome .answer)
+    ++ (sizeIn (stored Sequential (failedBy o r .store) (o .seq)) 0 ∷ accessIn (stored Sequential (failedBy o r .store) (o .seq)) 0 ∷ [])
+
+-- ---- the table
+
+-- what the definitions give, and what the paper says
+pub record Case : Type 0 where
+  pub given : List ℕ
+  pub stated : List ℕ
+
+abbrev pub is : List ℕ → List ℕ → Case
+is given stated = record { given = given; stated = stated }
+
+-- a write's command is kind 1 at the byte address 1572864 × 512 + 4096, a read's kind 0 at 1572864 × 512
+unfoldable pub casesOf : Mounting → Mounting → List Case
+casesOf plain joined =
+    -- "cnv has 2 files of 268435456; aggregated, 1 of 536870912. seq/0 is 4096, seq/1 is 0."
+    is (mountedFiles plain) (0 ∷ 2 ∷ 2 ∷ [])
+    ∷ is (sizeIn (plain .cnv) 0 ∷ sizeIn (plain .cnv) 1 ∷ []) (268435456 ∷ 268435456 ∷ [])
+    ∷ is (mountedFiles joined) (0 ∷ 1 ∷ 2 ∷ [])
+    ∷ is (sizeIn (joined .cnv) 0 ∷ []) (536870912 ∷ [])
+    ∷ is (sizeIn (plain .seq) 0 ∷ []) (4096 ∷ [])
+    ∷ is (sizeIn (plain .seq) 1 ∷ []) (0 ∷ [])
+    -- "write seq/0 at 4096, 201322496 bytes: commanded; 201326592 bytes: 5"
+    ∷ is (callOn plain 0 (Call.Write 4096 201322496)) (0 ∷ 1 ∷ 805310464 ∷ 201322496 ∷ [])
+    ∷ is (callOn plain 0 (Call.Write 4096 201326592)) (5 ∷ [])
+    -- "truncate seq/0 to 4096: 4. truncate seq/1 to 0: answered at once."
+    ∷ is (callOn plain 0 (Call.Truncate 4096)) (4 ∷ [])
+    ∷ is (callOn plain 1 (Call.Truncate 0)) (0 ∷ 0 ∷ [])
+    -- "read seq/0, 0, 10000: commands 4096 bytes"
+    ∷ is (callOn plain 0 (Call.Read 0 10000)) (0 ∷ 0 ∷ 805306368 ∷ 4096 ∷ [])
+    -- "write 8192 at 4096 fails, pointer 1572880: 7, size 8192. Same with condition 13: size 4096, access read."
+    ∷ is (failedWrite plain (zone 3 2 2 393216 1572880)) (7 ∷ 8192 ∷ 8192 ∷ 2 ∷ [])
+    ∷ is (failedWrite plain (zone 3 2 13 393216 1572880)) (7 ∷ 4096 ∷ 4096 ∷ 1 ∷ [])
+    ∷ []
+
+abbrev pub cases : List Case
+cases = casesOf (mounting false) (mounting true)
+
+-- THE CLAIM: each case gives what the paper says.
+unfoldable pub Starred : Type 0
+Starred = map (λ (c : Case). c .given) cases ≡ map (λ (c : Case). c .stated) cases

@@ -1,0 +1,155 @@
+-- The disk's rules, on one zone: which commands it does, what they move, and what can befall it. Numbers of a zone are in sectors of
+-- 512 bytes, those of a command and the block `b` in bytes.
+use mathlib.Core.Bool.{Bool, true, false, not, cond, _&&_, _||_}
+use Prim.Native.Nat.{ℕ, _+_, _-_, _*_, _/_, min, max}
+use lib.Dec.{eqb}
+use Rattle.types.specs.declared.FileKind.{FileKind}
+use Rattle.types.specs.declared.FileKind.the-variants.{Conventional, Sequential}
+use Rattle.types.specs.declared.Condition.{Condition}
+use Rattle.types.specs.declared.Condition.the-variants.{Healthy, ReadOnly, Offline}
+use Rattle.types.specs.declared.Command.{Command}
+use Rattle.types.specs.declared.CommandKind.{CommandKind}
+use Rattle.zones.specs.declared.Zone.{Zone}
+use Rattle.types.specs.Blocks.{sectorBytes, bytesOf, blockSectors}
+use Rattle.calls.specs.Checks.{isOffline}
+use Rattle.zones.specs.Zone.{isHealthy}
+
+-- a zone as the disk has it; `Zone` is a record of one
+pub record DiskZone : Type 0 where
+  pub kind : FileKind
+  pub start : ℕ
+  pub length : ℕ
+  pub capacity : ℕ
+  pub pointer : ℕ
+  pub condition : Condition
+
+-- the zone with another pointer and condition: nothing else ever moves
+unfoldable pub moved : DiskZone → ℕ → Condition → DiskZone
+moved z pointer condition =
+    record { kind = z .kind; start = z .start; length = z .length; capacity = z .capacity; pointer = pointer; condition = condition }
+
+-- ---- mishaps
+
+-- "the condition worsens"
+pub data Harm : Type 0 where
+  none : Harm
+  toReadOnly : Harm
+  toOffline : Harm
+
+-- "nothing betters it"
+abbrev pub worsened : Condition → Harm → Condition
+worsened c none = c
+worsened Healthy toReadOnly = ReadOnly
+worsened ReadOnly toReadOnly = ReadOnly
+worsened Offline toReadOnly = Offline
+worsened c toOffline = Offline
+
+-- how many blocks the pointer falls back, and the harm
+pub record Mishap : Type 0 where
+  pub blocks : ℕ
+  pub harm : Harm
+
+-- "the pointer falls back by whole blocks, at most to start" (a pointer below the start, which only a zone has whose pointer means nothing, stays)
+abbrev pub fallen : ℕ → DiskZone → ℕ → ℕ → ℕ
+fallen b z pointer blocks = max (min pointer (z .start)) (pointer - blocks * blockSectors b)
+
+-- a mishap to the zone, with its pointer at `pointer`
+unfoldable pub struck : ℕ → DiskZone → ℕ → Mishap → DiskZone
+struck b z pointer e = moved z (fallen b z pointer (e .blocks)) (worsened (z .condition) (e .harm))
+
+-- ---- commands
+
+-- "A healthy sequential zone takes a write only at its pointer .., a conventional one anywhere"
+abbrev pub takesAt : FileKind → ℕ → ℕ → Bool
+takesAt Conventional pointer address = true
+takesAt Sequential pointer address = eqb address (bytesOf pointer)
+
+-- "Flush .. fails if the file isn't quiet" (of a conventional file it may succeed in any case: the disk may do more there than the paper's)
+abbrev pub flushes : FileKind → Bool → Bool
+flushes Conventional quiet = true
+flushes Sequential quiet = quiet
+
+-- "Write, reset and finish fail on an unhealthy zone, a read on an offline one."
+abbrev pub allowsBy : CommandKind → Bool → DiskZone → ℕ → Bool
+allowsBy CommandKind.Read quiet z address = not (isOffline (z .condition))
+allowsBy CommandKind.Write quiet z address = isHealthy (z .condition) && takesAt (z .kind) (z .pointer) address
+allowsBy CommandKind.Reset quiet z address = isHealthy (z .condition)
+allowsBy CommandKind.Finish quiet z address = isHealthy (z .condition)
+allowsBy CommandKind.Flush quiet z address = flushes (z .kind) quiet
+
+-- the zone can do the command
+unfoldable pub allows : Bool → DiskZone → Command → Bool
+allows quiet z c = allowsBy (c .kind) quiet z (c .address)
+
+-- ".. and moves it by the length"
+abbrev pub advanced : FileKind → ℕ → ℕ → ℕ
+advanced Conventional pointer n = pointer
+advanced Sequential pointer n = pointer + n / sectorBytes
+
+-- the pointer once a command of n bytes is done: "reset and finish move it to start and start+capacity"
+abbrev pub pointerAfter : DiskZone → CommandKind → ℕ → ℕ
+pointerAfter z CommandKind.Read n = z .pointer
+pointerAfter z CommandKind.Write n = advanced (z .kind) (z .pointer) n
+pointerAfter z CommandKind.Reset n = z .start
+pointerAfter z CommandKind.Finish n = z .start + z .capacity
+pointerAfter z CommandKind.Flush n = z .pointer
+
+-- "a failing write may first land any whole number of its blocks", where the zone can take it; else nothing lands
+abbrev pub landedBy : CommandKind → Bool → ℕ → DiskZone → ℕ → ℕ → ℕ
+landedBy CommandKind.Read can b z n blocks = z .pointer
+landedBy CommandKind.Write true b z n blocks = advanced (z .kind) (z .pointer) (min (blocks * b) n)
+landedBy CommandKind.Write false b z n blocks = z .pointer
+landedBy CommandKind.Reset can b z n blocks = z .pointer
+landedBy CommandKind.Finish can b z n blocks = z .pointer
+landedBy CommandKind.Flush can b z n blocks = z .pointer
+
+-- what the disk chooses: "Any command may fail"; the blocks that land first; a "mishap (alone or with a failure)"
+pub record Choice : Type 0 where
+  pub fails : Bool
+  pub lands : ℕ
+  pub mishap : Mishap
+
+-- whether the command was done, and the zone afterwards
+pub record Performed : Type 0 where
+  pub succeeded : Bool
+  pub zone : DiskZone
+
+abbrev pub performedBy : Bool → ℕ → Bool → DiskZone → Command → Choice → Performed
+performedBy true b quiet z c o =
+    record { succeeded = true; zone = moved z (pointerAfter z (c .kind) (c .length)) (z .condition) }
+performedBy false b quiet z c o =
+    record { succeeded = false; zone = struck b z (landedBy (c .kind) (allows quiet z c) b z (c .length) (o .lands)) (o .mishap) }
+
+-- the disk does a command
+unfoldable pub perform : ℕ → Bool → DiskZone → Command → Choice → Performed
+perform b quiet z c o = performedBy (allows quiet z c && not (o .fails)) b quiet z c o
+
+-- ---- "A failed command reports the zone at its address truthfully afterwards."
+
+-- type 1 is conventional, 2 and 3 are sequential
+abbrev pub typeByte : FileKind → ℕ
+typeByte Conventional = 1
+typeByte Sequential = 2
+
+-- "A healthy sequential zone's condition follows: 1 at start, 14 at the end, else 2; a healthy conventional one's stays 0."
+abbrev pub healthyByte : FileKind → DiskZone → ℕ
+healthyByte Conventional z = 0
+healthyByte Sequential z = cond (eqb (z .pointer) (z .start)) 1 (cond (eqb (z .pointer) (z .start + z .capacity)) 14 2)
+
+-- "Condition 13 is read-only, 15 offline"
+abbrev pub conditionByte : Condition → DiskZone → ℕ
+conditionByte Healthy z = healthyByte (z .kind) z
+conditionByte ReadOnly z = 13
+conditionByte Offline z = 15
+
+-- the zone's record, as the disk reports it
+unfoldable pub reported : DiskZone → Zone
+reported z =
+    record {
+      start = z .start;
+      length = z .length;
+      pointer = z .pointer;
+      kind = typeByte (z .kind);
+      condition = conditionByte (z .condition) z;
+      capacity = z .capacity;
+    }

@@ -1,0 +1,10 @@
+pub mod Disk
+pub mod Story
+pub mod Shows
+pub mod Report
+pub mod World
+pub mod Claim
+pub mod Demand
+pub mod Frame
+pub mod Cases
+pub mod Runs
