@@ -18,10 +18,16 @@ use types::Refusal;
 use types::Row;
 use types::Volume;
 
+// The most files of a kind.
+pub const MOST_FILES: u32 = 1022;
+
+// 2 ^ 40: every file ends by this sector.
+const LAST_SECTOR: u64 = 1099511627776;
+
 fn files_fit(files: u32, words: usize) -> bool
     ensures { λ r. ⌜ r ≡ filesFit files words ⌝ }
 {
-    (files as usize <= table::rows_lent(words)) & (files <= 1022)
+    (files as usize <= table::rows_lent(words)) & (files <= MOST_FILES)
 }
 
 // Check 10, of the counts: no more files of either kind than rows lent or than any mount has, and a block that is one.
@@ -117,12 +123,12 @@ fn whole_blocks(unit: u64, n: u64) -> bool
     (0 < n) & on_block(unit, n)
 }
 
-// So many sectors from `start` end by sector 2 ^ 40.
+// So many sectors from `start` end by the last sector, without their sum, which could wrap.
 fn ends_by(start: u64, sectors: u64) -> bool
     ensures { λ r. ⌜ r ≡ leb (start + sectors) (2 ^ 40) ⌝ }
 {
-    if start <= 1099511627776 {
-        sectors <= 1099511627776 - start
+    if start <= LAST_SECTOR {
+        sectors <= LAST_SECTOR - start
     } else {
         false
     }

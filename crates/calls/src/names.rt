@@ -2,6 +2,7 @@
 ghost use mathlib.Core.List.{[], _∷_};
 ghost use Rattle.calls.specs.Names.{KindTells, NumberTells, NameTells};
 use crate::Name;
+use crate::checks;
 use types::FileKind;
 
 // What the first four bytes of a name say.
@@ -44,7 +45,7 @@ fn number_read(text: &[u8]) -> NumberRead
             return NumberRead::Nothing;
         }
         value = value * 10 + ((byte - b'0') as u32);
-        if 1021 < value {
+        if checks::MOST_FILES <= value {
             return NumberRead::Nothing;
         }
         i += 1;

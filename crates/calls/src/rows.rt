@@ -129,11 +129,13 @@ fn write_row(m: Mount, kind: FileKind, row: Row, offset: u64, length: u64) -> An
     if is_unwritable(a) {
         return Answer::Refused(Refusal::Denied);
     }
-    if is_beyond(row.capacity, offset, length) {
+    let v = m.volume;
+    let beyond = is_beyond(row.capacity, offset, length);
+    let misplaced = is_misplaced(kind, v.block, row.size, offset, length);
+    if beyond {
         return Answer::Refused(Refusal::BeyondCapacity);
     }
-    let v = m.volume;
-    if is_misplaced(kind, v.block, row.size, offset, length) {
+    if misplaced {
         return Answer::Refused(Refusal::Misplaced);
     }
     transferred(CommandKind::Write, row.start, offset, length)

@@ -26,6 +26,9 @@ use types::Volume;
 use zones::ReportCheck;
 use zones::Zone;
 
+// Zone 0 is never a file.
+const FIRST_FILE: usize = 1;
+
 // A run of conventional zones that may go on, or none. Start and capacity in sectors.
 pub struct Run {
     pub active: bool,
@@ -142,7 +145,7 @@ fn seq_files(b: &[u8]) -> usize
 {
     let count = zones::zone_count(b);
     let mut n = 0;
-    for i in 1..count {
+    for i in FIRST_FILE..count {
         let z = zones::zone_of(b, i);
         n += files(zones::is_sequential(z));
     }
@@ -157,7 +160,7 @@ fn cnv_files(b: &[u8], aggregate: bool) -> usize
     let count = zones::zone_count(b);
     let mut n = 0;
     let mut run = no_run();
-    for i in 1..count {
+    for i in FIRST_FILE..count {
         let z = zones::zone_of(b, i);
         n += files(run_ends(aggregate, run, z));
         run = next_run(aggregate, run, z);
@@ -185,7 +188,7 @@ fn write_seq(b: &[u8], t: &mut [u64])
 {
     let count = zones::zone_count(b);
     let mut to = 0;
-    for i in 1..count {
+    for i in FIRST_FILE..count {
         let z = zones::zone_of(b, i);
         to = put_seq(t, to, z);
     }
@@ -199,7 +202,7 @@ fn write_cnv(b: &[u8], aggregate: bool, t: &mut [u64])
     let count = zones::zone_count(b);
     let mut to = 0;
     let mut run = no_run();
-    for i in 1..count {
+    for i in FIRST_FILE..count {
         let z = zones::zone_of(b, i);
         to = put_if(t, to, run_ends(aggregate, run, z), row_of_run(run));
         run = next_run(aggregate, run, z);

@@ -19,23 +19,23 @@ returns-2 c = simp (c .before .before .if1 .left, sym (c .before .is-unwritable 
 is-beyond-requires : tie.Need-is-beyond-requires
 is-beyond-requires c κs = search needs
 
-returns-3 : tie.Need-returns-3
-unfolding writeRow refuse
-returns-3 c = simp (c .before .before .before .before .if1 .left, sym (c .before .before .before .is-unwritable .ensures) ∙ c .before .before .if2 .left, sym (c .before .is-beyond .ensures .0) ∙ c .if3 .taken)
-
 is-misplaced-requires : tie.Need-is-misplaced-requires
 is-misplaced-requires c κs = search needs
 
+returns-3 : tie.Need-returns-3
+unfolding writeRow refuse
+returns-3 c = simp (c .before .before .before .before .before .before .if1 .left, sym (c .before .before .before .before .before .is-unwritable .ensures) ∙ c .before .before .before .before .if2 .left, sym (c .before .before .is-beyond .ensures .0) ∙ c .if3 .taken)
+
 returns-4 : tie.Need-returns-4
 unfolding writeRow refuse
-returns-4 c = simp (c .before .before .before .before .before .before .before .if1 .left, sym (c .before .before .before .before .before .before .is-unwritable .ensures) ∙ c .before .before .before .before .before .if2 .left, sym (c .before .before .before .before .is-beyond .ensures .0) ∙ c .before .before .before .if3 .left, sym (c .before .is-misplaced .ensures) ∙ c .if4 .taken)
+returns-4 c = simp (c .before .before .before .before .before .before .before .if1 .left, sym (c .before .before .before .before .before .before .is-unwritable .ensures) ∙ c .before .before .before .before .before .if2 .left, sym (c .before .before .before .is-beyond .ensures .0) ∙ c .before .if3 .left, sym (c .before .before .is-misplaced .ensures) ∙ c .if4 .taken)
 
 transferred-requires : tie.Need-transferred-requires
-transferred-requires c κs = omega (arith, c .before .before .before .before .is-beyond .ensures .1 (c .before .before .before .if3 .left))
+transferred-requires c κs = omega (arith, c .before .before .before .is-beyond .ensures .1 (c .before .if3 .left))
 
 returns-5 : tie.Need-returns-5
 unfolding writeRow refuse
-returns-5 c = simp (c .before .before .before .before .before .before .before .before .if1 .left, sym (c .before .before .before .before .before .before .before .is-unwritable .ensures) ∙ c .before .before .before .before .before .before .if2 .left, sym (c .before .before .before .before .before .is-beyond .ensures .0) ∙ c .before .before .before .before .if3 .left, sym (c .before .before .is-misplaced .ensures) ∙ c .before .if4 .left, c .transferred .ensures)
+returns-5 c = simp (c .before .before .before .before .before .before .before .before .if1 .left, sym (c .before .before .before .before .before .before .before .is-unwritable .ensures) ∙ c .before .before .before .before .before .before .if2 .left, sym (c .before .before .before .before .is-beyond .ensures .0) ∙ c .before .before .if3 .left, sym (c .before .before .before .is-misplaced .ensures) ∙ c .before .if4 .left, c .transferred .ensures)
 
 pub write-row-spec : {M : Type 1} → statement M
 write-row-spec =
@@ -45,8 +45,8 @@ write-row-spec =
     is-unwritable-requires
     returns-2
     is-beyond-requires
-    returns-3
     is-misplaced-requires
+    returns-3
     returns-4
     transferred-requires
     returns-5)

@@ -1,0 +1,241 @@
+//! Runs after a good mount: against the model disk, or with completions that nothing stands behind.
+
+use super::broken::spoil_end;
+use super::calls::call;
+use super::refused::{damage, head, noise_record};
+use super::shape::{self, encode_zone, Shape};
+use super::Generated;
+use crate::consistency::Run;
+use crate::disk::{Choice, Mishap};
+use crate::mount::Input;
+use crate::play::mount_volume;
+use crate::random::Random;
+use crate::tape::{encode, Record};
+use crate::types::{Command, Condition, FileKind, Held, Operation, Row, Volume, DISK_LIMIT, SECTOR};
+use crate::zone::{self, Zone, RECORD};
+
+/// A run in which the disk tells the truth; the consistency check watches it.
+pub fn truthful(random: &mut Random) -> Generated {
+    let shape = shape::shape(random);
+    let input = shape::input(random, &shape);
+    let mut tape = head(&input);
+    let check = drive(random, &shape, &input, &mut tape);
+    if random.percent(8) {
+        spoil_end(random, &mut tape);
+    }
+    Generated { bytes: tape, check: check.map(|run| run.tally) }
+}
+
+/// How a run goes, in percent.
+struct Temper {
+    failures: u64,
+    mishaps: u64,
+}
+
+fn drive(random: &mut Random, shape: &Shape, input: &Input, tape: &mut Vec<u8>) -> Result<Run, String> {
+    let mut run = Run::begin(input)?;
+    let temper = Temper { failures: random.pick(&[3, 10, 25, 50]), mishaps: random.pick(&[0, 4, 10, 25]) };
+    let steps = match shape.zones.len() {
+        // No file, so nothing can happen.
+        1 => 8,
+        // Each state costs a fresh mount.
+        101.. => 40,
+        _ => random.pick(&[20, 60, 120, 200]),
+    };
+    for _ in 0..steps {
+        if random.percent(temper.mishaps) {
+            let zone = mishap_zone(random, &run);
+            run.mishap(zone, mishap(random))?;
+        } else if run.volume.mount.held.is_some() && !random.percent(15) {
+            doing(random, &mut run, &temper, tape)?;
+        } else if random.percent(5) {
+            stray_completion(random, &mut run, tape)?;
+        } else {
+            let record = call(random, &run.volume);
+            encode(&Record::Call(record), tape);
+            // A kind that no file has is no call of a run; it changes nothing.
+            if let Some(call) = record.call() {
+                run.call(&call)?;
+            }
+        }
+    }
+    Ok(run)
+}
+
+/// Mostly a zone of the outstanding command or one of the first, where the calls go.
+fn mishap_zone(random: &mut Random, run: &Run) -> usize {
+    let zones = run.disk.zones.len() as u64;
+    match run.volume.mount.held {
+        Some(held) if random.percent(60) => run.disk.zone_at(held.command.address),
+        _ if random.percent(60) => random.below(zones.min(5)) as usize,
+        _ => random.below(zones) as usize,
+    }
+}
+
+fn mishap(random: &mut Random) -> Mishap {
+    match random.weighted(&[40, 20, 10, 20, 10]) {
+        0 => Mishap::Fall { blocks: 1 },
+        1 => Mishap::Fall { blocks: random.between(0, 8) },
+        2 => Mishap::Fall { blocks: u64::MAX },
+        3 => Mishap::BecomesReadOnly,
+        _ => Mishap::BecomesOffline,
+    }
+}
+
+fn doing(random: &mut Random, run: &mut Run, temper: &Temper, tape: &mut Vec<u8>) -> Result<(), String> {
+    let Some(held) = run.volume.mount.held else { return Ok(()) };
+    let blocks = held.command.length / run.volume.mount.block;
+    let landed_blocks = match random.below(3) {
+        0 => 0,
+        1 => blocks,
+        _ => random.below(blocks + 1),
+    };
+    let mishap = random.percent(30).then(|| mishap(random));
+    let choice = Choice { fail: random.percent(temper.failures), landed_blocks, mishap };
+    let completion = run.doing(&choice, |zone| truthful_record(random, zone))?;
+    match completion {
+        Some(None) => encode(&Record::Good, tape),
+        Some(Some(record)) => encode(&Record::Failed(&record), tape),
+        None => {}
+    }
+    Ok(())
+}
+
+/// The zone as it is. Where a pointer means nothing the disk may put anything there.
+fn truthful_record(random: &mut Random, zone: &Zone) -> [u8; RECORD] {
+    let mut shown = *zone;
+    if zone.is_conventional() || zone.health() != Condition::Healthy {
+        shown.pointer = random.pick(&[zone.pointer, zone.start, 0, u64::MAX, zone.start + 1]);
+    }
+    encode_zone(random, &shown)
+}
+
+/// A completion out of turn: any while nothing is outstanding, else one that must be refused with 9.
+fn stray_completion(random: &mut Random, run: &mut Run, tape: &mut Vec<u8>) -> Result<(), String> {
+    let Some(held) = run.volume.mount.held else {
+        let noise = noise_record(random);
+        let failed = random.percent(50).then_some(noise.as_slice());
+        encode(&failed.map_or(Record::Good, Record::Failed), tape);
+        return run.idle_completion(failed);
+    };
+    let record = damaged_record(random, &run.volume, &held);
+    let mut trial = run.volume.clone();
+    // A record that is taken after all would be a lie of the disk, which has no place in this run.
+    if trial.fail(&record, true).is_err() {
+        if trial != run.volume {
+            return Err("a refused record changed something".to_string());
+        }
+        encode(&Record::Failed(&record), tape);
+    }
+    Ok(())
+}
+
+/// A run in which completions come as they like, true or not.
+pub fn wild(random: &mut Random) -> Vec<u8> {
+    let shape = shape::shape(random);
+    let input = shape::input(random, &shape);
+    let mut tape = head(&input);
+    let Ok(mut volume) = mount_volume(&input) else { return tape };
+    let steps = if shape.zones.len() == 1 { 8 } else { random.pick(&[10, 40, 120]) };
+    for _ in 0..steps {
+        wild_step(random, &mut volume, &mut tape);
+    }
+    if random.percent(15) {
+        spoil_end(random, &mut tape);
+    }
+    tape
+}
+
+fn wild_step(random: &mut Random, volume: &mut Volume, tape: &mut Vec<u8>) {
+    let held = volume.mount.held;
+    let choices = if held.is_some() { [25, 20, 26, 26, 3] } else { [90, 4, 2, 2, 2] };
+    let held = held.unwrap_or(NOTHING);
+    let record = match random.weighted(&choices) {
+        0 => {
+            let record = call(random, volume);
+            encode(&Record::Call(record), tape);
+            record.call().map(|call| volume.call(&call));
+            return;
+        }
+        1 => {
+            encode(&Record::Good, tape);
+            let _ = volume.succeed();
+            return;
+        }
+        2 => plausible_record(random, volume, &held),
+        3 => damaged_record(random, volume, &held),
+        _ => noise_record(random),
+    };
+    encode(&Record::Failed(&record), tape);
+    let _ = volume.fail(&record, true);
+}
+
+/// Stands in for the held command where a record is made without one.
+const NOTHING: Held = Held {
+    kind: FileKind::Sequential,
+    number: 0,
+    command: Command { operation: Operation::Flush, address: 0, length: 0 },
+};
+
+fn plausible_record(random: &mut Random, volume: &Volume, held: &Held) -> [u8; RECORD] {
+    let zone = plausible_zone(random, volume, held);
+    encode_zone(random, &zone)
+}
+
+fn damaged_record(random: &mut Random, volume: &Volume, held: &Held) -> [u8; RECORD] {
+    let step = volume.mount.block / SECTOR;
+    let mut zone = plausible_zone(random, volume, held);
+    match random.weighted(&[60, 20, 20]) {
+        0 => damage(random, &mut zone, step),
+        // A good zone of the other type, or another file's.
+        1 => zone.kind = random.pick(&[1, 2, 3]),
+        _ => zone.start = random.pick(&[zone.start + step, zone.start.saturating_sub(step), 0]),
+    }
+    encode_zone(random, &zone)
+}
+
+/// A record that fits the file of the held command, mostly.
+fn plausible_zone(random: &mut Random, volume: &Volume, held: &Held) -> Zone {
+    let row = &volume.rows(held.kind)[held.number as usize];
+    let step = volume.mount.block / SECTOR;
+    match held.kind {
+        FileKind::Sequential => sequential_zone(random, row, step, held.command.length),
+        FileKind::Conventional => conventional_zone(random, row, step),
+    }
+}
+
+fn sequential_zone(random: &mut Random, row: &Row, step: u64, asked: u64) -> Zone {
+    let capacity = row.capacity / SECTOR;
+    let spare = if random.percent(50) { step * random.below(4) } else { 0 };
+    let length = (capacity + spare).min(DISK_LIMIT - row.start);
+    let mut condition = random.pick(&[1, 2, 3, 4, 13, 14, 15, 2, 2, 13]);
+    let written = match random.weighted(&[40, 20, 20, 10, 10]) {
+        0 => row.size / SECTOR,
+        1 => (row.size + asked).min(row.capacity) / SECTOR / step * step,
+        2 => random.below(capacity / step.max(1) + 1) * step,
+        3 => 0,
+        _ => capacity,
+    };
+    let mut pointer = row.start + written;
+    if condition == zone::FULL {
+        pointer = row.start + capacity;
+    }
+    if random.percent(3) {
+        condition = zone::FULL;
+    }
+    let kind = random.pick(&[zone::SEQUENTIAL_REQUIRED, zone::SEQUENTIAL_PREFERRED]);
+    Zone { start: row.start, length, pointer, kind, condition, capacity }
+}
+
+/// Any part of the file may be the zone that is reported, on the block or not.
+fn conventional_zone(random: &mut Random, row: &Row, step: u64) -> Zone {
+    let blocks = row.capacity / SECTOR / step.max(1);
+    let skipped = random.below(blocks);
+    let most = blocks - skipped;
+    let length = step * if random.percent(60) { most } else { random.between(1, most.max(1)) };
+    let off = u64::from(random.percent(10));
+    let condition = random.pick(&[0, 0, 13, 15]);
+    let pointer = random.pick(&[0, row.start, u64::MAX]);
+    let start = row.start + skipped * step + off;
+    Zone { start, length, pointer, kind: zone::CONVENTIONAL, condition, capacity: length }
+}

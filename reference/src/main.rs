@@ -1,0 +1,146 @@
+//! The command line of the reference player.
+
+mod sums;
+
+use std::fs;
+use std::io::{self, Read, Write};
+use std::path::Path;
+use std::process::ExitCode;
+
+use reference::compare::{compare_files, compare_generated};
+use reference::describe::describe;
+use reference::generate::generate;
+use reference::play::play;
+
+const HELP: &str = "\
+usage:
+  reference play [FILE]                        plays a tape (standard input without FILE or with -)
+  reference describe [FILE]                    shows a tape as text
+  reference generate SEED DIR COUNT            writes COUNT tapes of SEED into DIR
+  reference compare SEED COUNT PLAYER [KEEPDIR]
+                                               compares PLAYER on COUNT tapes of SEED; a tape on which
+                                               they differ is kept in KEEPDIR
+  reference compare-files PLAYER FILE...       compares PLAYER on the given tapes
+  reference checksum [--binary]                prints a checksum for each input on standard input
+  reference checksum-inputs [--binary] SEED COUNT
+                                               prints COUNT inputs for checksum
+  reference --help                             shows this
+
+PLAYER is a program that takes a tape's file name as its only argument and prints the lines.
+Inputs for checksum are lines of hex digits, or with --binary a length (two bytes, little-endian)
+and as many bytes, over and over.
+The exit status is 0 if all went well, 1 if something failed, 2 for a wrong command line.
+";
+
+enum Problem {
+    Usage(String),
+    Failure(String),
+}
+
+impl From<String> for Problem {
+    fn from(text: String) -> Problem {
+        Problem::Failure(text)
+    }
+}
+
+fn main() -> ExitCode {
+    let arguments: Vec<String> = std::env::args().skip(1).collect();
+    match run(&arguments) {
+        Ok(()) => ExitCode::SUCCESS,
+        Err(Problem::Failure(text)) => {
+            eprintln!("reference: {text}");
+            ExitCode::from(1)
+        }
+        Err(Problem::Usage(text)) => {
+            eprintln!("reference: {text}\n\n{HELP}");
+            ExitCode::from(2)
+        }
+    }
+}
+
+fn run(arguments: &[String]) -> Result<(), Problem> {
+    let words: Vec<&str> = arguments.iter().map(String::as_str).collect();
+    match words.as_slice() {
+        ["--help" | "-h" | "help"] | [_, "--help" | "-h"] => print(HELP),
+        ["play"] => play_tape("-"),
+        ["play", file] => play_tape(file),
+        ["describe"] => describe_tape("-"),
+        ["describe", file] => describe_tape(file),
+        ["generate", seed, directory, count] => {
+            write_tapes(number("SEED", seed)?, Path::new(directory), number("COUNT", count)?)
+        }
+        ["compare", seed, count, player] => compare(seed, count, player, None),
+        ["compare", seed, count, player, keep] => compare(seed, count, player, Some(Path::new(keep))),
+        ["compare-files", player, _, ..] => print_line(&compare_files(player, &arguments[2..])?),
+        ["checksum"] => print(&sums::of_lines(&read_input("-")?)?),
+        ["checksum", "--binary"] => print(&sums::of_records(&read_input("-")?)?),
+        ["checksum-inputs", seed, count] => {
+            let inputs = sums::inputs(number("SEED", seed)?, number("COUNT", count)?);
+            write_out(&sums::as_lines(&inputs))
+        }
+        ["checksum-inputs", "--binary", seed, count] => {
+            let inputs = sums::inputs(number("SEED", seed)?, number("COUNT", count)?);
+            write_out(&sums::as_records(&inputs))
+        }
+        [] => Err(Problem::Usage("a command is needed".to_string())),
+        [command, ..] => {
+            Err(Problem::Usage(format!("unknown command, or wrong arguments for it: {command}")))
+        }
+    }
+}
+
+fn number(name: &str, text: &str) -> Result<u64, Problem> {
+    text.parse()
+        .map_err(|_| Problem::Usage(format!("{name} must be a number from 0 to 2^64-1, not {text:?}")))
+}
+
+fn play_tape(file: &str) -> Result<(), Problem> {
+    let tape = read_input(file)?;
+    let text: String = play(&tape).into_iter().map(|line| line.text + "\n").collect();
+    print(&text)
+}
+
+fn describe_tape(file: &str) -> Result<(), Problem> {
+    let tape = read_input(file)?;
+    let text: String = describe(&tape).into_iter().map(|record| record.text + "\n").collect();
+    print(&text)
+}
+
+fn compare(seed: &str, count: &str, player: &str, keep: Option<&Path>) -> Result<(), Problem> {
+    print_line(&compare_generated(number("SEED", seed)?, number("COUNT", count)?, player, keep)?)
+}
+
+fn write_tapes(seed: u64, directory: &Path, count: u64) -> Result<(), Problem> {
+    let failed = |path: &Path, error: io::Error| format!("{}: {error}", path.display());
+    fs::create_dir_all(directory).map_err(|error| failed(directory, error))?;
+    for index in 1..=count {
+        let generated = generate(seed, index);
+        let file = directory.join(format!("{index:06}.tape"));
+        fs::write(&file, &generated.bytes).map_err(|error| failed(&file, error))?;
+        generated.check.map_err(|text| format!("tape {index} of seed {seed}: {text}"))?;
+    }
+    Ok(())
+}
+
+fn read_input(file: &str) -> Result<Vec<u8>, Problem> {
+    if file != "-" {
+        return Ok(fs::read(file).map_err(|error| format!("{file}: {error}"))?);
+    }
+    let mut bytes = Vec::new();
+    io::stdin().read_to_end(&mut bytes).map_err(|error| format!("standard input: {error}"))?;
+    Ok(bytes)
+}
+
+fn print_line(text: &str) -> Result<(), Problem> {
+    print(&format!("{text}\n"))
+}
+
+fn print(text: &str) -> Result<(), Problem> {
+    write_out(text.as_bytes())
+}
+
+fn write_out(bytes: &[u8]) -> Result<(), Problem> {
+    let mut out = io::stdout().lock();
+    let result = out.write_all(bytes).and_then(|()| out.flush());
+    Ok(result.map_err(|error| format!("standard output: {error}"))?)
+}

@@ -1,0 +1,111 @@
+//! Tests with numbers from the papers, or worked out by hand; none asks this program for its expectation.
+
+mod calls;
+mod completion;
+mod consistency;
+mod generator;
+mod mount;
+mod sheet;
+mod tape;
+
+use crate::calls::{Call, Reply, Request};
+use crate::mount::Input;
+use crate::play::mount_volume;
+use crate::types::{FileKind, Refusal, Volume};
+use crate::zone::Zone;
+
+pub const CNV: FileKind = FileKind::Conventional;
+pub const SEQ: FileKind = FileKind::Sequential;
+
+/// A super block with the default mode, nobody's label, and a right checksum.
+pub fn super_block(features: u64) -> Vec<u8> {
+    let mut bytes = vec![0; 4096];
+    bytes[..4].copy_from_slice(&[0x53, 0x46, 0x4F, 0x5A]);
+    bytes[88..96].copy_from_slice(&features.to_le_bytes());
+    stamp(&mut bytes);
+    bytes
+}
+
+/// Puts the checksum over bytes with a zero field into a super block.
+pub fn stamp(bytes: &mut [u8]) {
+    bytes[4..8].fill(0);
+    let sum = crate::checksum::checksum(bytes);
+    bytes[4..8].copy_from_slice(&sum.to_le_bytes());
+}
+
+pub fn zone(start: u64, length: u64, pointer: u64, kind: u8, condition: u8, capacity: u64) -> Zone {
+    Zone { start, length, pointer, kind, condition, capacity }
+}
+
+pub fn record(zone: &Zone) -> [u8; 64] {
+    let mut bytes = [0xEE; 64];
+    bytes[..8].copy_from_slice(&zone.start.to_le_bytes());
+    bytes[8..16].copy_from_slice(&zone.length.to_le_bytes());
+    bytes[16..24].copy_from_slice(&zone.pointer.to_le_bytes());
+    bytes[24] = zone.kind;
+    bytes[25] = zone.condition;
+    bytes[32..40].copy_from_slice(&zone.capacity.to_le_bytes());
+    bytes
+}
+
+pub fn report(flags: u32, zones: &[Zone]) -> Vec<u8> {
+    let mut bytes = vec![0; 8];
+    bytes.extend_from_slice(&(zones.len() as u32).to_le_bytes());
+    bytes.extend_from_slice(&flags.to_le_bytes());
+    zones.iter().for_each(|zone| bytes.extend_from_slice(&record(zone)));
+    bytes
+}
+
+/// The five zones of the clerk's sheet.
+pub fn sheet_zones() -> Vec<Zone> {
+    vec![
+        zone(0, 524288, 0, 1, 0, 524288),
+        zone(524288, 524288, 0, 1, 0, 524288),
+        zone(1048576, 524288, 0, 1, 0, 524288),
+        zone(1572864, 524288, 1572872, 2, 2, 393216),
+        zone(2097152, 524288, 2097152, 2, 1, 393216),
+    ]
+}
+
+pub fn input_with(features: u64, options: &str, zones: &[Zone]) -> Input {
+    Input {
+        block: 4096,
+        super_block: super_block(features),
+        report: report(1, zones),
+        options: options.as_bytes().to_vec(),
+    }
+}
+
+pub fn sheet_input() -> Input {
+    input_with(0, "errors=repair", &sheet_zones())
+}
+
+pub fn sheet() -> Volume {
+    mount_volume(&sheet_input()).unwrap()
+}
+
+/// The sheet's disk under another error policy.
+pub fn sheet_under(options: &str) -> Volume {
+    mount_volume(&input_with(0, options, &sheet_zones())).unwrap()
+}
+
+pub fn read(kind: FileKind, number: u32, offset: u64, length: u64) -> Call {
+    Call { kind, number, request: Request::Read { offset, length } }
+}
+
+pub fn write(kind: FileKind, number: u32, offset: u64, length: u64) -> Call {
+    Call { kind, number, request: Request::Write { offset, length } }
+}
+
+pub fn truncate(kind: FileKind, number: u32, size: u64) -> Call {
+    Call { kind, number, request: Request::Truncate { size } }
+}
+
+pub fn flush(kind: FileKind, number: u32) -> Call {
+    Call { kind, number, request: Request::Flush }
+}
+
+/// The refusal's number, or 0 for a call that is answered or issued.
+pub fn number(result: Result<Reply, Refusal>) -> u32 {
+    result.map_or_else(Refusal::number, |_| 0)
+}

@@ -1,0 +1,256 @@
+//! Mounts: every refusal number, what zones become, and options.
+
+use super::*;
+use crate::mount::mount;
+use crate::options::parse;
+use crate::types::{Access, Condition, Policy, Row};
+
+fn refusal(input: &Input) -> u32 {
+    mount_volume(input).map_or_else(Refusal::number, |_| 0)
+}
+
+/// The number for the sheet's mount after `change`.
+fn changed(change: impl Fn(&mut Input)) -> u32 {
+    let mut input = sheet_input();
+    change(&mut input);
+    refusal(&input)
+}
+
+fn changed_super_block(at: usize, bytes: &[u8]) -> u32 {
+    changed(|input| {
+        input.super_block[at..at + bytes.len()].copy_from_slice(bytes);
+        stamp(&mut input.super_block);
+    })
+}
+
+#[test]
+fn block_and_super_block() {
+    assert_eq!(changed(|input| input.block = 1024), 20);
+    assert_eq!(changed(|input| input.super_block.truncate(4095)), 21);
+    assert_eq!(changed(|input| input.super_block.push(0)), 21);
+    assert_eq!(changed_super_block(0, &[0x5A, 0x4F, 0x46, 0x53]), 22);
+    assert_eq!(changed(|input| input.super_block[4] ^= 1), 23);
+    assert_eq!(changed_super_block(88, &[16]), 24);
+    assert_eq!(changed_super_block(95, &[0x80]), 24);
+    assert_eq!(changed_super_block(88, &[2, 0, 0, 0, 0, 0, 0, 0, 0xFF, 0xFF, 0xFF, 0xFF]), 25);
+    assert_eq!(changed_super_block(88, &[4, 0, 0, 0, 0, 0, 0, 0, 0, 0, 0, 0, 0xFF, 0xFF, 0xFF, 0xFF]), 25);
+    assert_eq!(changed_super_block(96, &[0xFF; 12]), 0);
+    assert_eq!(changed_super_block(108, &[1]), 26);
+    assert_eq!(changed_super_block(4095, &[1]), 26);
+}
+
+#[test]
+fn owner_group_mode_uuid() {
+    let mut input = sheet_input();
+    input.super_block[72..88].copy_from_slice(b"0123456789abcdef");
+    input.super_block[96..108].copy_from_slice(&[7, 0, 0, 0, 9, 0, 0, 0, 0xFF, 0xFF, 0, 0]);
+    let mut shown = |features: u8| {
+        input.super_block[88] = features;
+        stamp(&mut input.super_block);
+        let mount = mount_volume(&input).unwrap().mount;
+        assert_eq!(&mount.uuid, b"0123456789abcdef");
+        (mount.owner, mount.group, mount.mode)
+    };
+    assert_eq!(shown(0), (0, 0, 0o640));
+    assert_eq!(shown(2), (7, 0, 0o640));
+    assert_eq!(shown(4), (0, 9, 0o640));
+    assert_eq!(shown(8), (0, 0, 0o777));
+}
+
+#[test]
+fn report_header() {
+    assert_eq!(changed(|input| input.options = b"errors=".to_vec()), 27);
+    assert_eq!(changed(|input| input.report[0] = 1), 28);
+    assert_eq!(changed(|input| input.report[8] = 4), 28);
+    assert_eq!(changed(|input| input.report[12] = 3), 28);
+    assert_eq!(changed(|input| input.report.truncate(15)), 28);
+    assert_eq!(changed(|input| input.report = vec![0; 16]), 28);
+    assert_eq!(changed(|input| input.report = report(1, &vec![sheet_zones()[0]; 1024])), 28);
+}
+
+/// The number of the bad zone, if zone 3 is this one.
+fn bad_zone(third: Zone) -> Option<usize> {
+    let mut zones = sheet_zones();
+    zones[3] = third;
+    match mount_volume(&input_with(0, "", &zones)) {
+        Err(Refusal::BadZone(number)) => Some(number),
+        other => {
+            assert!(other.is_ok());
+            None
+        }
+    }
+}
+
+/// Zone 3 of the sheet: start, length and capacity.
+const S: u64 = 1572864;
+const L: u64 = 524288;
+const C: u64 = 393216;
+
+#[test]
+fn good_sequential_zones() {
+    let good = [
+        zone(S, L, S + C, 3, 14, C),
+        zone(S, L, S + C, 2, 1, C),
+        zone(S, L, S + 8, 2, 4, C),
+        zone(S, L, 1, 2, 13, C),
+        zone(S, L, u64::MAX, 2, 15, C),
+        zone(S, L, S, 2, 1, L),
+    ];
+    for zone in good {
+        assert_eq!(bad_zone(zone), None, "{zone:?}");
+    }
+}
+
+#[test]
+fn bad_sequential_zones() {
+    let bad = [
+        zone(S + 8, L, S + 8, 2, 2, C),
+        zone(S - 8, L, S, 2, 2, C),
+        zone(S, 0, S, 2, 1, C),
+        zone(S, L + 1, S, 2, 1, C),
+        zone(S, L, S, 2, 1, 0),
+        zone(S, L, S, 2, 1, C + 1),
+        zone(S, L, S, 2, 1, L + 8),
+        zone(S, L, S + 4, 2, 2, C),
+        zone(S, L, S - 8, 2, 2, C),
+        zone(S, L, S + C + 8, 2, 2, C),
+        zone(S, L, S + C - 8, 2, 14, C),
+        zone(S, L, S, 2, 0, C),
+        zone(S, L, S, 2, 5, C),
+        zone(S, L, S, 4, 1, C),
+        zone(S, L, S, 0, 0, C),
+        zone(S, S.wrapping_neg(), S, 2, 1, C),
+        zone(S, (1 << 40) - S + 8, S, 2, 1, C),
+    ];
+    for zone in bad {
+        assert_eq!(bad_zone(zone), Some(3), "{zone:?}");
+    }
+    // Good itself, but the next zone doesn't start where it ends.
+    assert_eq!(bad_zone(zone(S, (1 << 40) - S, S, 2, 1, C)), Some(4));
+}
+
+#[test]
+fn conventional_zones() {
+    for condition in [0, 13, 15] {
+        assert_eq!(bad_zone(zone(S, 524288, u64::MAX, 1, condition, 524288)), None);
+    }
+    assert_eq!(bad_zone(zone(S, 524288, 0, 1, 1, 524288)), Some(3));
+    assert_eq!(bad_zone(zone(S, 524288, 0, 1, 14, 524288)), Some(3));
+    assert_eq!(bad_zone(zone(S, 524288, 0, 1, 0, 393216)), Some(3));
+}
+
+#[test]
+fn zones_up_to_the_limit() {
+    let last = |length| {
+        let zones = [zone(0, 8, 0, 1, 0, 8), zone(8, length, 8, 2, 1, 8)];
+        refusal(&input_with(0, "", &zones))
+    };
+    assert_eq!(last((1 << 40) - 8), 0);
+    assert_eq!(last(1 << 40), 29);
+}
+
+#[test]
+fn capacity_only_with_its_flag() {
+    let mut input = sheet_input();
+    input.report[12] = 0;
+    let volume = mount_volume(&input).unwrap();
+    assert_eq!(volume.seq[0].capacity, 268435456);
+}
+
+#[test]
+fn ill_zones_are_kept_offline() {
+    for condition in [13, 15] {
+        let mut zones = sheet_zones();
+        zones[2].condition = condition;
+        zones[3].condition = condition;
+        let offline = |start, capacity| Row {
+            start,
+            capacity,
+            size: 0,
+            condition: Condition::Offline,
+            access: Access::None,
+        };
+        let apart = mount_volume(&input_with(0, "", &zones)).unwrap();
+        assert_eq!((apart.cnv[0].size, apart.cnv[1]), (268435456, offline(1048576, 268435456)));
+        assert_eq!(apart.seq[0], offline(1572864, 201326592));
+        let together = mount_volume(&input_with(1, "", &zones)).unwrap();
+        assert_eq!(together.cnv[0], offline(524288, 536870912));
+    }
+}
+
+/// Zone 0 is in no run, and a sequential zone parts two runs.
+#[test]
+fn runs() {
+    let kinds = [1, 1, 2, 1, 1, 1, 3];
+    let zones: Vec<Zone> = kinds
+        .iter()
+        .zip(0..)
+        .map(|(&kind, number)| zone(number * 8, 8, number * 8, kind, u8::from(kind != 1), 8))
+        .collect();
+    let volume = mount_volume(&input_with(1, "", &zones)).unwrap();
+    assert_eq!((volume.mount.cnv_files, volume.mount.seq_files), (2, 2));
+    let place = |row: &Row| (row.start, row.capacity);
+    assert_eq!((place(&volume.cnv[0]), place(&volume.cnv[1])), ((8, 4096), (24, 12288)));
+    assert_eq!((place(&volume.seq[0]), place(&volume.seq[1])), ((16, 4096), (48, 4096)));
+}
+
+#[test]
+fn tables_too_short_and_rows_past_the_files() {
+    let input = sheet_input();
+    let mark = Row { start: 77, ..Row::EMPTY };
+    for (cnv_rows, seq_rows, answer) in [(2, 2, 0), (1, 2, 30), (2, 1, 30), (4, 5, 0)] {
+        let (mut cnv, mut seq) = (vec![mark; cnv_rows], vec![mark; seq_rows]);
+        let result = mount(&input, &mut cnv, &mut seq);
+        assert_eq!(result.map_or_else(Refusal::number, |_| 0), answer);
+        let filled = if answer == 0 { 2 } else { 0 };
+        assert_eq!(cnv.iter().filter(|row| **row == mark).count(), cnv_rows - filled);
+        assert_eq!(seq.iter().filter(|row| **row == mark).count(), seq_rows - filled);
+    }
+}
+
+/// With two faults the lower number is given.
+#[test]
+fn order_of_checks() {
+    assert_eq!(changed(|input| (input.block, input.super_block[0]) = (0, 0)), 20);
+    assert_eq!(changed(|input| (input.super_block[0], input.super_block[4]) = (0, 0)), 22);
+    assert_eq!(changed(|input| (input.super_block[88], input.super_block[200]) = (16, 1)), 23);
+    assert_eq!(changed_super_block(88, &[0x1F, 0, 0, 0, 0, 0, 0, 0, 0xFF, 0xFF, 0xFF, 0xFF]), 24);
+    assert_eq!(
+        changed_super_block(88, &[2, 0, 0, 0, 0, 0, 0, 0, 0xFF, 0xFF, 0xFF, 0xFF, 0, 0, 0, 0, 0, 0, 0, 0, 1]),
+        25
+    );
+    assert_eq!(changed(|input| (input.options, input.report[0]) = (b"x".to_vec(), 1)), 27);
+    assert_eq!(changed(|input| (input.report[0], input.report[16]) = (1, 1)), 28);
+}
+
+#[test]
+fn options() {
+    let good: [(&str, Policy); 9] = [
+        ("", Policy::RemountReadOnly),
+        (",,,", Policy::RemountReadOnly),
+        ("errors=remount-ro", Policy::RemountReadOnly),
+        ("errors=zone-ro", Policy::ZoneReadOnly),
+        ("errors=zone-offline", Policy::ZoneOffline),
+        ("errors=repair", Policy::Repair),
+        (",errors=repair,,", Policy::Repair),
+        ("errors=repair,errors=zone-ro", Policy::ZoneReadOnly),
+        ("errors=zone-ro,errors=remount-ro,", Policy::RemountReadOnly),
+    ];
+    for (text, policy) in good {
+        assert_eq!(parse(text.as_bytes()), Ok(policy), "{text}");
+    }
+    for text in [
+        "errors=",
+        "errors",
+        "repair",
+        "errors=repair ",
+        " ",
+        "errors=Repair",
+        "errors=repair,x",
+        "errors=zone",
+    ] {
+        assert_eq!(parse(text.as_bytes()), Err(Refusal::Options), "{text}");
+    }
+    assert_eq!(parse(&[b','; 255]), Ok(Policy::RemountReadOnly));
+    assert_eq!(parse(&[b','; 256]), Err(Refusal::Options));
+}

@@ -1,0 +1,98 @@
+//! The clerk's sheet.
+
+use super::*;
+use crate::calls::Reply::{Done, Issued};
+use crate::play::play;
+use crate::tape::{encode, CallRecord, Record, Verb};
+use crate::types::{Access, Command, Operation};
+
+fn command(operation: Operation, address: u64, length: u64) -> Reply {
+    Issued(Command { operation, address, length })
+}
+
+#[test]
+fn files_and_sizes() {
+    let volume = sheet();
+    assert_eq!((volume.mount.cnv_files, volume.mount.seq_files), (2, 2));
+    assert_eq!((volume.cnv[0].size, volume.cnv[1].size), (268435456, 268435456));
+    assert_eq!((volume.cnv[0].capacity, volume.cnv[1].capacity), (268435456, 268435456));
+    assert_eq!((volume.seq[0].size, volume.seq[1].size), (4096, 0));
+    assert_eq!(volume.seq[0].capacity, 201326592);
+}
+
+#[test]
+fn aggregated() {
+    let volume = mount_volume(&input_with(1, "errors=repair", &sheet_zones())).unwrap();
+    assert_eq!((volume.mount.cnv_files, volume.mount.seq_files), (1, 2));
+    assert_eq!((volume.cnv[0].start, volume.cnv[0].size), (524288, 536870912));
+}
+
+#[test]
+fn writes() {
+    let issued = command(Operation::Write, 805306368 + 4096, 201322496);
+    assert_eq!(sheet().call(&write(SEQ, 0, 4096, 201322496)), Ok(issued));
+    assert_eq!(number(sheet().call(&write(SEQ, 0, 4096, 201326592))), 5);
+    assert_eq!(number(sheet().call(&write(SEQ, 0, 4096, 1))), 6);
+    assert_eq!(number(sheet().call(&write(SEQ, 0, 0, 4096))), 6);
+}
+
+#[test]
+fn truncations() {
+    assert_eq!(number(sheet().call(&truncate(SEQ, 0, 4096))), 4);
+    let mut volume = sheet();
+    assert_eq!(volume.call(&truncate(SEQ, 1, 0)), Ok(Done(0)));
+    assert_eq!(volume.mount.held, None);
+}
+
+#[test]
+fn reads() {
+    assert_eq!(sheet().call(&read(SEQ, 0, 0, 10000)), Ok(command(Operation::Read, 805306368, 4096)));
+    assert_eq!(sheet().call(&read(SEQ, 0, 4096, 10000)), Ok(Done(0)));
+}
+
+#[test]
+fn failed_write() {
+    for (condition, size, access) in [(2, 8192, Access::Write), (13, 4096, Access::Read)] {
+        let mut volume = sheet();
+        volume.call(&write(SEQ, 0, 4096, 8192)).unwrap();
+        let zone = zone(1572864, 524288, 1572880, 2, condition, 393216);
+        assert_eq!(volume.fail(&record(&zone), true), Ok(size));
+        assert_eq!((volume.seq[0].size, volume.seq[0].access), (size, access));
+    }
+}
+
+/// The output that the paper prints whole.
+#[test]
+fn printed_output() {
+    let input = sheet_input();
+    let call = |verb, offset, length| Record::Call(CallRecord { verb, kind: 1, number: 0, offset, length });
+    let records = [
+        Record::Block(4096),
+        Record::SuperBlock(&input.super_block),
+        Record::Report(&input.report),
+        Record::Options(b"errors=repair"),
+        call(Verb::Write, 4096, 8192),
+        Record::Good,
+        call(Verb::Write, 4096, 4096),
+        call(Verb::Truncate, 0, 0),
+        Record::Good,
+    ];
+    let mut tape = Vec::new();
+    records.iter().for_each(|record| encode(record, &mut tape));
+    let output: String = play(&tape).iter().map(|line| format!("{}\n", line.text)).collect();
+    let expected = "\
+MO 0 2 2
+WR 0 W 805310464 8192
+OK 0 8192
+WR 6
+TR 0 Z 805306368 0
+OK 0 0
+";
+    assert_eq!(output, expected);
+}
+
+#[test]
+fn checksum_is_not_inverted() {
+    assert_eq!(crate::checksum::checksum(b"123456789"), 0x340BC6D9);
+    assert_eq!(crate::checksum::checksum(b""), 0xFFFFFFFF);
+}

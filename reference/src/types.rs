@@ -1,0 +1,194 @@
+//! The values that everything else shares.
+
+/// Bytes in a sector; starts, lengths and pointers of zones count sectors.
+pub const SECTOR: u64 = 512;
+/// No zone and no file ends beyond this sector.
+pub const DISK_LIMIT: u64 = 1 << 40;
+/// A report has at most this many zones.
+pub const MAX_ZONES: u32 = 1023;
+/// Zone 0 is never a file, so there are at most this many files of a kind.
+pub const MAX_FILES: usize = 1022;
+
+#[derive(Clone, Copy, Debug, PartialEq, Eq)]
+pub enum FileKind {
+    Conventional,
+    Sequential,
+}
+
+/// From best to worst; the order is used to compare a record with a row.
+#[derive(Clone, Copy, Debug, PartialEq, Eq, PartialOrd, Ord)]
+pub enum Condition {
+    Healthy,
+    ReadOnly,
+    Offline,
+}
+
+/// From least to most; the order is used to see that access never rises.
+#[derive(Clone, Copy, Debug, PartialEq, Eq, PartialOrd, Ord)]
+pub enum Access {
+    None,
+    Read,
+    Write,
+}
+
+/// What a failed command does to its file and to the mount: the `errors=` option.
+#[derive(Clone, Copy, Debug, PartialEq, Eq)]
+pub enum Policy {
+    RemountReadOnly,
+    ZoneReadOnly,
+    ZoneOffline,
+    Repair,
+}
+
+/// One file: start in sectors, capacity and size in bytes.
+#[derive(Clone, Copy, Debug, PartialEq, Eq)]
+pub struct Row {
+    pub start: u64,
+    pub capacity: u64,
+    pub size: u64,
+    pub condition: Condition,
+    pub access: Access,
+}
+
+impl Row {
+    pub const EMPTY: Row =
+        Row { start: 0, capacity: 0, size: 0, condition: Condition::Healthy, access: Access::None };
+}
+
+#[derive(Clone, Copy, Debug, PartialEq, Eq)]
+pub enum Operation {
+    Read,
+    Write,
+    Reset,
+    Finish,
+    Flush,
+}
+
+/// A command to the disk: byte address and byte length.
+#[derive(Clone, Copy, Debug, PartialEq, Eq)]
+pub struct Command {
+    pub operation: Operation,
+    pub address: u64,
+    pub length: u64,
+}
+
+/// The outstanding command and the file whose call issued it.
+#[derive(Clone, Copy, Debug, PartialEq, Eq)]
+pub struct Held {
+    pub kind: FileKind,
+    pub number: u32,
+    pub command: Command,
+}
+
+#[derive(Clone, Debug, PartialEq, Eq)]
+pub struct Mount {
+    pub block: u64,
+    pub cnv_files: usize,
+    pub seq_files: usize,
+    pub owner: u32,
+    pub group: u32,
+    pub mode: u32,
+    pub policy: Policy,
+    pub read_only: bool,
+    pub held: Option<Held>,
+    pub uuid: [u8; 16],
+}
+
+/// A mount with the two lent tables, which may be longer than the files they hold.
+#[derive(Clone, Debug, PartialEq, Eq)]
+pub struct Volume {
+    pub mount: Mount,
+    pub cnv: Vec<Row>,
+    pub seq: Vec<Row>,
+}
+
+impl Volume {
+    pub fn rows(&self, kind: FileKind) -> &[Row] {
+        match kind {
+            FileKind::Conventional => &self.cnv,
+            FileKind::Sequential => &self.seq,
+        }
+    }
+
+    pub fn files(&self, kind: FileKind) -> usize {
+        match kind {
+            FileKind::Conventional => self.mount.cnv_files,
+            FileKind::Sequential => self.mount.seq_files,
+        }
+    }
+
+    pub fn row_mut(&mut self, kind: FileKind, number: u32) -> &mut Row {
+        match kind {
+            FileKind::Conventional => &mut self.cnv[number as usize],
+            FileKind::Sequential => &mut self.seq[number as usize],
+        }
+    }
+}
+
+#[derive(Clone, Copy, Debug, PartialEq, Eq)]
+pub enum Refusal {
+    NoSuchFile,
+    Outstanding,
+    ReadOnlyMount,
+    Access,
+    BeyondCapacity,
+    NotAppending,
+    NothingOutstanding,
+    RecordMismatch,
+    Impossible,
+    Block,
+    SuperBlockLength,
+    Magic,
+    Checksum,
+    Features,
+    Owner,
+    Tail,
+    Options,
+    ReportHeader,
+    BadZone(usize),
+    TooFewRows,
+}
+
+impl Refusal {
+    pub fn number(self) -> u32 {
+        match self {
+            Refusal::NoSuchFile => 1,
+            Refusal::Outstanding => 2,
+            Refusal::ReadOnlyMount => 3,
+            Refusal::Access => 4,
+            Refusal::BeyondCapacity => 5,
+            Refusal::NotAppending => 6,
+            Refusal::NothingOutstanding => 8,
+            Refusal::RecordMismatch => 9,
+            Refusal::Impossible => 10,
+            Refusal::Block => 20,
+            Refusal::SuperBlockLength => 21,
+            Refusal::Magic => 22,
+            Refusal::Checksum => 23,
+            Refusal::Features => 24,
+            Refusal::Owner => 25,
+            Refusal::Tail => 26,
+            Refusal::Options => 27,
+            Refusal::ReportHeader => 28,
+            Refusal::BadZone(_) => 29,
+            Refusal::TooFewRows => 30,
+        }
+    }
+}
+
+/// `a + b <= limit`, for numbers whose sum may not fit.
+pub fn sum_within(a: u64, b: u64, limit: u64) -> bool {
+    u128::from(a) + u128::from(b) <= u128::from(limit)
+}
+
+pub fn u32_at(bytes: &[u8], at: usize) -> u32 {
+    let mut four = [0; 4];
+    four.copy_from_slice(&bytes[at..at + 4]);
+    u32::from_le_bytes(four)
+}
+
+pub fn u64_at(bytes: &[u8], at: usize) -> u64 {
+    let mut eight = [0; 8];
+    eight.copy_from_slice(&bytes[at..at + 8]);
+    u64::from_le_bytes(eight)
+}
