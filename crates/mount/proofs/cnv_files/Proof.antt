@@ -34,8 +34,8 @@ loop-holds c = let e = c .no-run .ensures in
     let all = cnv-first (c .before .before .before .args .aggregate) (c .no-run .result) (c .before .before .before .args .b .now) e in
     (search needs, search needs, omega (arith, ap (λ s. s .capacity) e), c .before .before .before .pre .1, omega (arith, ap length all))
 
-zone-of-requires : tie.Need-zone-of-requires Inv-loop μ-loop
-zone-of-requires c κs = search needs
+read-zone-requires : tie.Need-read-zone-requires Inv-loop μ-loop
+read-zone-requires c κs = search needs
 
 run-ends-requires : tie.Need-run-ends-requires Inv-loop μ-loop
 run-ends-requires c κs = search needs
@@ -47,7 +47,7 @@ add-n : tie.Need-add-n Inv-loop μ-loop
 add-n c = search needs
 
 next-run-requires : tie.Need-next-run-requires Inv-loop μ-loop
-next-run-requires c κs = let z = c .before .before .zone-of in
+next-run-requires c κs = let z = c .before .before .read-zone in
     let s = sound-next _ _ _ (zones-next (c .before .before .before .before .before .before .before .before .args .b .now) (c .before .before .before .before .loop .i) (z .result) (z .ensures) (omega arith)) (c .before .before .before .before .loop .inv .3) .0 in
     omega arith
 
@@ -59,7 +59,7 @@ loop-less c = search needs
 
 loop-again : tie.Need-loop-again Inv-loop μ-loop
 loop-again c = let l = c .before .before .before .before .before .loop in
-    let z = c .before .before .before .zone-of in
+    let z = c .before .before .before .read-zone in
     let n = c .next-run in
     let next = zones-next (c .before .before .before .before .before .before .before .before .before .args .b .now) (l .i) (z .result) (z .ensures) (omega arith) in
     let s = sound-next _ _ _ next (l .inv .3) in
@@ -88,7 +88,7 @@ cnv-files-spec =
     zone-count-requires
     no-run-requires
     loop-holds
-    zone-of-requires
+    read-zone-requires
     run-ends-requires
     files-requires
     add-n

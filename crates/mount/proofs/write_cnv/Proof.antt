@@ -38,8 +38,8 @@ loop-holds c = let e = c .no-run .ensures in
     let all = cnv-first (c .before .before .before .before .args .aggregate) (c .no-run .result) (c .before .before .before .before .args .b .now) e in
     (search needs, search needs, omega (arith, ap (λ s. s .capacity) e), c .before .before .before .before .pre .1, omega (arith, ap length all, c .before .before .before .before .pre .2), refl, ap (fillFrom (c .before .before .before .before .args .t .now) 0) all)
 
-zone-of-requires : tie.Need-zone-of-requires Inv-loop μ-loop
-zone-of-requires c κs = search needs
+read-zone-requires : tie.Need-read-zone-requires Inv-loop μ-loop
+read-zone-requires c κs = search needs
 
 run-ends-requires : tie.Need-run-ends-requires Inv-loop μ-loop
 run-ends-requires c κs = search needs
@@ -49,14 +49,14 @@ row-of-run-requires c κs = search needs
 
 put-if-requires : tie.Need-put-if-requires Inv-loop μ-loop
 put-if-requires c κs = let l = c .before .before .before .before .before .loop in
-    let z = c .before .before .before .zone-of in
+    let z = c .before .before .before .read-zone in
     let next = zones-next (c .before .before .before .before .before .before .before .before .before .before .args .b .now) (l .i) (z .result) (z .ensures) (omega arith) in
     let rows = cnv-next (c .before .before .before .before .before .before .before .before .before .before .args .aggregate) (l .run) _ (z .result) _ _ (c .before .run-ends .result) (c .row-of-run .result) next (c .before .run-ends .ensures) refl (c .row-of-run .ensures) in
     omega (arith, turn-count _ _ (c .before .run-ends .result) _ rows)
 
 next-run-requires : tie.Need-next-run-requires Inv-loop μ-loop
 next-run-requires c κs = let l = c .before .before .before .before .before .before .before .before .loop in
-    let z = c .before .before .before .before .before .before .zone-of in
+    let z = c .before .before .before .before .before .before .read-zone in
     let s = sound-next _ _ _ (zones-next (c .before .before .before .before .before .before .before .before .before .before .before .before .before .args .b .now) (l .i) (z .result) (z .ensures) (omega (arith, c .before .before .before .before .before .before .before .loop-test .taken, c .before .before .before .before .before .before .before .before .before .before .zone-count .ensures))) (l .inv .3) .0 in
     omega (arith, s .held, s .end, l .inv .1, l .inv .2, c .before .before .before .before .before .before .before .before .before .before .before .before .before .pre .0 .few, c .before .before .before .before .before .before .before .before .before .before .zone-count .ensures)
 
@@ -68,7 +68,7 @@ loop-less c = search needs
 
 loop-again : tie.Need-loop-again Inv-loop μ-loop
 loop-again c = let l = c .before .before .before .before .before .before .before .before .before .loop in
-    let z = c .before .before .before .before .before .before .before .zone-of in
+    let z = c .before .before .before .before .before .before .before .read-zone in
     let p = c .before .before .before .put-if in
     let n = c .next-run in
     let inside = c .before .before .before .before .before .before .before .before .loop-test .taken in
@@ -116,7 +116,7 @@ write-cnv-spec =
     zone-count-requires
     no-run-requires
     loop-holds
-    zone-of-requires
+    read-zone-requires
     run-ends-requires
     row-of-run-requires
     put-if-requires

@@ -33,12 +33,12 @@ loop-holds : tie.Need-loop-holds Inv-loop μ-loop
 unfolding fileZones
 loop-holds c = search needs
 
-zone-of-requires : tie.Need-zone-of-requires Inv-loop μ-loop
-zone-of-requires c κs = search needs
+read-zone-requires : tie.Need-read-zone-requires Inv-loop μ-loop
+read-zone-requires c κs = search needs
 
 put-seq-requires : tie.Need-put-seq-requires Inv-loop μ-loop
 put-seq-requires c κs = let l = c .before .before .before .loop in
-    let z = c .before .zone-of in
+    let z = c .before .read-zone in
     let next = zones-next (c .before .before .before .before .before .before .before .args .b .now) (l .i) (z .result) (z .ensures) (omega arith) in
     (sound-next _ _ _ next (l .inv .2) .0, omega (arith, turn-count _ _ (sequential (z .result)) _ (seq-next (z .result) _ _ next)))
 
@@ -50,7 +50,7 @@ loop-less c = search needs
 
 loop-again : tie.Need-loop-again Inv-loop μ-loop
 loop-again c = let l = c .before .before .before .before .before .before .loop in
-    let z = c .before .before .before .before .zone-of in
+    let z = c .before .before .before .before .read-zone in
     let p = c .before .before .put-seq in
     let next = zones-next (c .before .before .before .before .before .before .before .before .before .before .args .b .now) (l .i) (z .result) (z .ensures) (omega arith) in
     let rows = seq-next (z .result) _ _ next in (
@@ -78,7 +78,7 @@ write-seq-spec =
     μ-loop
     zone-count-requires
     loop-holds
-    zone-of-requires
+    read-zone-requires
     put-seq-requires
     add-i
     loop-less
