@@ -1,4 +1,4 @@
--- "`seq/07` and `seq/1 ` match nothing"; nor does `seq/`. And `seq/10` is the name of sequential file 10.
+-- "`seq/07` and `seq/1 ` match nothing"; nor does `seq/`. `seq/10` is the name of sequential file 10. Mode 0640 less 0222 is 0440.
 -- Assumes nothing.
 use Prim.Native.Nat.{ℕ, _<_}
 use native.Mathlib.Omega.{arith}
@@ -10,6 +10,7 @@ use Rattle.types.specs.declared.FileKind.{FileKind}
 use Rattle.types.specs.declared.FileKind.the-variants.{Sequential}
 use Rattle.calls.specs.declared.Name.the-variants.{Found, Nothing}
 use Rattle.calls.specs.Names.{decimal, digitsOf, nameOf, named}
+use Rattle.calls.specs.Show.{lessWriting}
 use Rattle.calls.proofs.Decimal.{decimal-digit, decimal-first, not-empty}
 use Rattle.calls.proofs.Naming.{name-parts, unnamed, named-file}
 
@@ -37,3 +38,6 @@ empty-number v = no-decimal v [] (not-empty [] refl)
 pub sequential-ten : (v : Volume) → 10 < v .sequential → named v (sequential (49 ∷ 48 ∷ [])) ≡ Found Sequential 10
 unfolding nameOf digitsOf
 sequential-ten v h = named-file v (sequential (49 ∷ 48 ∷ [])) Sequential 10 refl h
+
+pub mode-cleared : lessWriting 0o640 ≡ 0o440
+mode-cleared = refl

@@ -7,8 +7,7 @@ use Rattle.types.specs.declared.ErrorPolicy.{ErrorPolicy}
 use Rattle.types.specs.declared.ErrorPolicy.the-variants.{Repair}
 use Rattle.types.specs.declared.Outstanding.the-variants.{Idle}
 use Rattle.types.specs.declared.MountAnswer.the-variants.{Mounted}
-use mathlib.Core.Path.{_≡_, refl, ap, _∙_}
-use lib.ListN.{replicate}
+use mathlib.Core.Path.{_≡_, refl, ap}
 use Rattle.wire.specs.Le.{le}
 use Rattle.crc32.specs.Crc.{crcFrom, crcByte, crcSteps, crcStep, superblockCrc}
 use Rattle.superblock.specs.declared.SuperRead.{SuperRead}

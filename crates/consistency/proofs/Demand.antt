@@ -1,25 +1,23 @@
 -- Demand 3 holds; and no truthful completion is answered 8, 9 or 10.
 -- Assumes nothing.
 use mathlib.Core.Bool.{Bool, true, false, cond}
-use mathlib.Core.List.{List, map}
+use mathlib.Core.List.{List}
 use mathlib.Core.Path.{_≡_, refl, sym, ap, _∙_, subst}
-use Prim.Native.Nat.{ℕ, suc, _+_, _*_, _/_, _≤_, _<_}
+use Prim.Native.Nat.{ℕ, suc, _<_}
 use native.Mathlib.Omega.{arith}
 use lib.ListN.{length, getD, drop}
 use Rattle.types.specs.declared.Row.{Row}
-use Rattle.types.specs.declared.Held.{Held}
 use Rattle.types.specs.declared.Volume.{Volume}
-use Rattle.types.specs.declared.Mount.{Mount}
 use Rattle.types.specs.declared.Command.{Command}
 use Rattle.types.specs.declared.FileKind.{FileKind}
 use Rattle.types.specs.declared.FileKind.the-variants.{Conventional, Sequential}
 use Rattle.types.specs.declared.ErrorPolicy.{ErrorPolicy}
-use Rattle.types.specs.declared.Outstanding.the-variants.{Idle, Busy}
+use Rattle.types.specs.declared.Outstanding.the-variants.{Busy}
 use Rattle.types.specs.declared.MountAnswer.{MountAnswer}
 use Rattle.types.specs.declared.MountAnswer.the-variants.{Mounted}
 use Rattle.types.specs.Numbers.{mountNumber, answerNumber}
 use Rattle.types.specs.Blocks.{blockSectors}
-use Rattle.types.proofs.Blocks.{IsBlock, is-block}
+use Rattle.types.proofs.Blocks.{is-block}
 use Rattle.table.specs.declared.Slot.the-variants.{Good}
 use Rattle.table.specs.Rows.{rowsLent, rowAt}
 use Rattle.superblock.specs.SuperBlock.{superRead}
@@ -28,19 +26,19 @@ use Rattle.zones.specs.declared.Zone.{Zone}
 use Rattle.zones.specs.Report.{zoneCount, zonesOf}
 use Rattle.mount.specs.Files.{cnvRows, seqRows}
 use Rattle.mount.specs.Fill.{fill}
-use Rattle.mount.specs.Mount.{Mounting, fileZones, policyOf, aggregated, mountOf, tableAfter, mountAnswer, mountOutcome}
+use Rattle.mount.specs.Mount.{Mounting, fileZones, policyOf, aggregated, mountOf, tableAfter, mountOutcome}
 use Rattle.zones.proofs.Laws.{framed, zones-length, AllGood, report-told, report-good}
 use Rattle.mount.proofs.Mounted.{Accepted, mounted-told, mounted-given}
 use Rattle.completion.specs.Completions.{digestOf}
-use Rattle.consistency.specs.Disk.{DiskZone, Choice}
-use Rattle.consistency.specs.Story.{Story, atMount}
+use Rattle.consistency.specs.Disk.{DiskZone}
+use Rattle.consistency.specs.Story.{Story}
 use Rattle.consistency.specs.Shows.{Shows, ShowsZones}
 use Rattle.consistency.specs.Shows as shows
-use Rattle.consistency.specs.World.{World, Event, run, mounted, zoneOf, storyOf, zoneHolding, performAt, truthful}
+use Rattle.consistency.specs.World.{World, Event, mounted, zoneOf, storyOf, zoneHolding, performAt, truthful}
 use Rattle.consistency.specs.Claim.{AsPromised}
 use Rattle.consistency.specs.Demand.{Compares, Start, after, Consistent, Demand3, AlwaysReported, AlwaysDigested}
 use Rattle.consistency.proofs.Promised.{shownRow, promised}
-use Rattle.consistency.proofs.Bridge.{noRow, Listed, fill-listed}
+use Rattle.consistency.proofs.Bridge.{noRow, fill-listed}
 use Rattle.consistency.proofs.Sound.{Sound}
 use Rattle.consistency.proofs.Files.{Files, none, other, file, kinds}
 use Rattle.consistency.proofs.Digests.{holdOf}

@@ -1,7 +1,7 @@
 -- What the digest of a ready command does to the words of its table.
 -- Assumes nothing.
-use Prim.Native.Nat.{ℕ, _+_, _*_, _≤_, _<_}
-use mathlib.Core.Path.{_≡_, refl, ap, _∙_, sym, subst}
+use Prim.Native.Nat.{ℕ, _<_}
+use mathlib.Core.Path.{_≡_, refl}
 use mathlib.Core.Bool.{Bool, true, false, cond}
 use mathlib.Core.List.{List}
 use lib.ListN.{length}
@@ -13,21 +13,19 @@ use Rattle.types.specs.declared.FileKind.{FileKind}
 use Rattle.types.specs.declared.FileKind.the-variants.{Conventional, Sequential}
 use Rattle.types.specs.declared.Refusal.the-variants as refusal
 use Rattle.types.specs.declared.Answer.{Answer}
-use Rattle.types.specs.declared.Answer.the-variants.{Refused, Done, Issue}
+use Rattle.types.specs.declared.Answer.the-variants.{Refused, Done}
 use Rattle.types.specs.declared.ErrorPolicy.{ErrorPolicy}
 use Rattle.types.specs.declared.ErrorPolicy.the-variants.{RemountRo, ZoneRo, ZoneOffline, Repair}
-use Rattle.types.specs.declared.Outstanding.the-variants.{Idle, Busy}
+use Rattle.types.specs.declared.Outstanding.the-variants.{Idle}
 use Rattle.types.specs.Mounts.{cleared}
 use Rattle.table.specs.Rows.{rowsLent}
 use Rattle.calls.specs.Checks.{ofKind}
 use Rattle.calls.proofs.Laws.{reached-lent}
 use Rattle.zones.specs.declared.Zone.{Zone}
 use Rattle.completion.specs.declared.Digest.{Digest}
-use Rattle.completion.specs.declared.Store.{Store}
 use Rattle.completion.specs.declared.Store.the-variants as store
-use Rattle.completion.specs.declared.held.Pending.the-variants as pending
-use Rattle.completion.specs.Held.{pendingOf, Ready}
-use Rattle.completion.specs.Completions.{Completion, good, failed, stored, countOf, rowAfter, succeeded, nothingLost, recoveredRow, markedBy, failing, recovering, recovered, recordFits, digestOf, digestPending}
+use Rattle.completion.specs.Held.{Ready}
+use Rattle.completion.specs.Completions.{good, failed, stored, countOf, rowAfter, succeeded, nothingLost, recoveredRow, markedBy, failing, recovering, recovered, recordFits, digestOf}
 use Rattle.completion.proofs.Laws.{pending-ready}
 use Rattle.consistency.proofs.Bridge.{Became, set-became, still-became}
 use Rattle.consistency.proofs.Keeps.{failedRow}
@@ -71,9 +69,6 @@ module _ (m : Mount) (c s : List ℕ) (k : FileKind) (n : ℕ) (d : Command) (r 
   unfolding recovered
   recovered-so z = by (nothingLost k (d .kind) z (r .size))
     where
-      new : Row
-      new = recoveredRow (m .volume .policy) k z r
-
       by : (x : Bool) → Digested m c s k n (cond x r (recoveredRow (m .volume .policy) k z r)) (Refused (refusal.Failed (cond x r (recoveredRow (m .volume .policy) k z r) .size)))
           (cond x (failing (cleared m) r store.Nothing) (recovering m (holdOf k n d) (recoveredRow (m .volume .policy) k z r)))
       by true = record { answer = refl; volume = refl; idle = refl; here = still-became (ofKind k c s) n r (w .reached .row); other = λ j t e. refl }

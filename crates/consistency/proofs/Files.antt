@@ -1,23 +1,22 @@
 -- The disk's zones, their stories and the rows of the seq files, walked together; and the zones of a conventional row.
 -- Assumes nothing.
-use mathlib.Core.Bool.{Bool, true, false, not, cond, _&&_, _||_}
+use mathlib.Core.Bool.{true, false, not}
 use mathlib.Core.List.{List, [], _∷_, map}
-use mathlib.Core.Path.{_≡_, refl, sym, ap, _∙_, subst}
-use Prim.Native.Nat.{ℕ, zero, suc, _+_, _-_, _*_, _/_, _%_, _^_, _≤_, _<_}
+use mathlib.Core.Path.{_≡_, refl, ap, _∙_}
+use Prim.Native.Nat.{ℕ, zero, suc, _+_, _*_, _≤_, _<_}
 use native.Mathlib.Omega.{arith}
-use lib.Dec.{leb, ltb, eqb}
-use lib.ListN.{length, getD, set}
-use borrow.Author.Tests.{ltb-true, le-ltb, lt-ltb}
+use lib.ListN.{getD, set}
+use borrow.Author.Tests.{le-ltb, lt-ltb}
 use Rattle.types.specs.declared.Row.{Row}
 use Rattle.types.specs.declared.FileKind.{FileKind}
 use Rattle.types.specs.declared.FileKind.the-variants.{Conventional, Sequential}
 use Rattle.types.specs.declared.Condition.{Condition}
 use Rattle.types.specs.declared.ErrorPolicy.{ErrorPolicy}
-use Rattle.types.proofs.Tests.{both, and-left, and-right}
+use Rattle.types.proofs.Tests.{both}
 use Rattle.calls.specs.Checks.{isConventional}
 use Rattle.consistency.specs.Disk.{DiskZone, moved}
 use Rattle.consistency.specs.Story.{Story}
-use Rattle.consistency.specs.World.{noZone, noStory, zoneHolding, isSeqFile, fileZone}
+use Rattle.consistency.specs.World.{noZone, noStory, zoneHolding, isSeqFile}
 use Rattle.consistency.proofs.Sound.{Sound, sound-moved}
 use Rattle.consistency.proofs.Keeps.{Agrees}
 use Rattle.consistency.proofs.Bridge.{noRow}

@@ -1,10 +1,10 @@
 -- A held command lies within its file, and a truthful record fits its row: number 9 is never given of it.
 -- Assumes nothing.
-use mathlib.Core.Bool.{Bool, true, false, not, _&&_, _||_, false≢true}
-use mathlib.Core.Path.{_≡_, refl, sym, ap, _∙_, subst}
-use Prim.Native.Nat.{ℕ, _+_, _-_, _*_, _/_, _≤_, _<_, min}
+use mathlib.Core.Bool.{Bool, true, false, not, _&&_, false≢true}
+use mathlib.Core.Path.{_≡_, refl, sym, ap, _∙_}
+use Prim.Native.Nat.{ℕ, _+_, _-_, _*_, _≤_, _<_, min}
 use native.Mathlib.Omega.{arith}
-use lib.Dec.{leb, eqb}
+use lib.Dec.{leb}
 use borrow.Author.Tests.{ltb-false, eqb-false, eq-eqb, le-leb}
 use Rattle.types.specs.declared.Row.{Row}
 use Rattle.types.specs.declared.Mount.{Mount}
@@ -12,7 +12,6 @@ use Rattle.types.specs.declared.Command.{Command}
 use Rattle.types.specs.declared.CommandKind.{CommandKind}
 use Rattle.types.specs.declared.FileKind.{FileKind}
 use Rattle.types.specs.declared.FileKind.the-variants.{Conventional, Sequential}
-use Rattle.types.specs.declared.Condition.{Condition}
 use Rattle.types.specs.declared.Answer.the-variants.{Issue}
 use Rattle.types.specs.declared.ErrorPolicy.{ErrorPolicy}
 use Rattle.types.specs.Codes.{conditionCode}
@@ -21,7 +20,6 @@ use Rattle.types.proofs.Blocks.{IsBlock}
 use Rattle.calls.specs.Checks.{isConventional}
 use Rattle.calls.specs.Calls.{readRow, writeRow, truncateRow, flushRow, answerOf}
 use Rattle.calls.proofs.Laws.{passed, not-done, issued}
-use Rattle.zones.specs.Zone.{conditionOf}
 use Rattle.completion.specs.Held.{callFor, issuable}
 use Rattle.completion.specs.Completions.{recordFits, matchesSequential, withinConventional}
 use Rattle.completion.proofs.Issuable.{issuable-call}

@@ -1,7 +1,7 @@
 -- The frame claim.
 -- Assumes nothing.
 use Prim.Native.Nat.{ℕ, _/_}
-use mathlib.Core.Path.{_≡_, refl, sym, subst}
+use mathlib.Core.Path.{_≡_, refl, subst}
 use mathlib.Core.Logic.{_≢_}
 use mathlib.Core.Bool.{Bool, true, false, cond}
 use mathlib.Core.List.{List}
@@ -18,22 +18,20 @@ use Rattle.types.specs.declared.ErrorPolicy.the-variants.{RemountRo, ZoneRo, Zo
 use Rattle.types.specs.declared.Answer.{Answer}
 use Rattle.types.specs.declared.Answer.the-variants.{Refused, Done, Issue}
 use Rattle.types.specs.declared.Outstanding.{Outstanding}
-use Rattle.types.specs.declared.Outstanding.the-variants.{Idle, Busy}
+use Rattle.types.specs.declared.Outstanding.the-variants.{Busy}
 use Rattle.types.specs.Mounts.{cleared}
 use Rattle.types.specs.Numbers.{answerNumber}
 use Rattle.table.proofs.Laws.{setRow-length, word-outside}
 use Rattle.calls.specs.Checks.{ofKind}
 use Rattle.calls.specs.Calls.{settled, answered}
 use Rattle.zones.specs.declared.Zone.{Zone}
-use Rattle.completion.specs.declared.Store.{Store}
 use Rattle.completion.specs.declared.Store.the-variants as store
-use Rattle.completion.specs.declared.Digest.{Digest}
 use Rattle.completion.specs.declared.held.Pending.{Pending}
 use Rattle.completion.specs.declared.held.Pending.the-variants as pending
 use Rattle.completion.specs.Held.{pendingOf, PendingTells}
 use Rattle.completion.specs.Completions.{Completion, good, failed, malformed, stored, refusing, succeeded, recovered, recovering, failing, markedBy, nothingLost, recoveredRow, recordFits, digested, digestPending, digestOf}
 use Rattle.completion.proofs.Laws.{pending-tells}
-use Rattle.consistency.specs.Frame.{Elsewhere, CallKeeps, TableKeeps, CompletionKeeps, Frame}
+use Rattle.consistency.specs.Frame.{Elsewhere, CallKeeps, CompletionKeeps, Frame}
 
 call-keeps : (m : Mount) (k : FileKind) (n : ℕ) (a : Answer) → CallKeeps m (settled m k n a)
 call-keeps m k n (Refused x) = record { volume = refl; readonly = refl; refused = λ e. refl }

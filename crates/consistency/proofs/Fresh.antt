@@ -1,11 +1,11 @@
 -- The disk of a world that has the invariant can be mounted afresh from every report that shows it, and what that mount gives.
 -- Assumes nothing.
-use mathlib.Core.Bool.{Bool, true, false, not, cond, _&&_, _||_, false≢true}
+use mathlib.Core.Bool.{Bool, true, false, not, _&&_, false≢true}
 use mathlib.Core.List.{List, [], _∷_, map}
-use mathlib.Core.Path.{_≡_, refl, sym, ap, _∙_, subst}
-use Prim.Native.Nat.{ℕ, zero, suc, _+_, _-_, _*_, _/_, _%_, _≤_, _<_}
+use mathlib.Core.Path.{_≡_, refl, sym, ap, _∙_}
+use Prim.Native.Nat.{ℕ, zero, suc, _+_, _/_, _<_}
 use native.Mathlib.Omega.{arith}
-use lib.Dec.{leb, ltb, eqb}
+use lib.Dec.{ltb}
 use lib.ListN.{length, getD, drop}
 use borrow.Author.Tests.{eq-eqb, lt-ltb}
 use Rattle.types.specs.declared.Row.{Row}
@@ -17,7 +17,7 @@ use Rattle.calls.specs.Checks.{isConventional}
 use Rattle.zones.specs.declared.Zone.{Zone}
 use Rattle.zones.specs.Zone.{conventional, sequential, goodZone}
 use Rattle.zones.proofs.Laws.{AllGood}
-use Rattle.mount.specs.Files.{seqRow, rowIf, seqRows, startsConventional, joined, runsWith, runs, runRow, cnvRows}
+use Rattle.mount.specs.Files.{seqRows, startsConventional, joined, runsWith, runs, runRow, cnvRows}
 use Rattle.consistency.specs.Disk.{DiskZone}
 use Rattle.consistency.specs.Story.{Story}
 use Rattle.consistency.specs.Shows.{ShowsZone, ShowsZones, none, next}

@@ -2,9 +2,9 @@
 -- Assumes nothing.
 use mathlib.Core.Bool.{Bool, true, false, not, cond, _&&_, _||_}
 use mathlib.Core.Path.{_≡_, refl, sym, ap, _∙_, subst}
-use Prim.Native.Nat.{ℕ, _+_, _-_, _*_, _/_, _%_, _≤_, _<_, min, max}
+use Prim.Native.Nat.{ℕ, _+_, _-_, _*_, _/_, _%_, _≤_, _<_, min}
 use native.Mathlib.Omega.{arith}
-use lib.Dec.{leb, ltb, eqb}
+use lib.Dec.{leb, eqb}
 use borrow.Author.Tests.{ltb-false, eqb-true, not-false}
 use Rattle.types.specs.declared.Row.{Row}
 use Rattle.types.specs.declared.Mount.{Mount}
@@ -19,9 +19,9 @@ use Rattle.types.specs.declared.Answer.the-variants.{Issue}
 use Rattle.types.specs.declared.ErrorPolicy.{ErrorPolicy}
 use Rattle.types.specs.declared.ErrorPolicy.the-variants.{RemountRo, ZoneRo, ZoneOffline, Repair}
 use Rattle.types.specs.Codes.{conditionCode}
-use Rattle.types.proofs.Tests.{both, and-left, and-right, or-left, or-right}
+use Rattle.types.proofs.Tests.{and-left, and-right, or-left, or-right}
 use Rattle.types.proofs.Blocks.{IsBlock, small, large}
-use Rattle.calls.specs.Calls.{unreadable, unwritable, badTarget, readRow, writeRow, truncateRow, flushRow, answerOf}
+use Rattle.calls.specs.Calls.{unreadable, unwritable, readRow, writeRow, truncateRow, flushRow, answerOf}
 use Rattle.calls.proofs.Laws.{passed, not-done, issued}
 use Rattle.zones.specs.declared.Zone.{Zone}
 use Rattle.zones.specs.Zone.{isHealthy, conditionOf, healthy, writtenSize}
@@ -34,8 +34,8 @@ use Rattle.completion.specs.Held.{callFor, issuable}
 use Rattle.completion.specs.Completions.{rowAfter, nothingLost, ruledSize, ruledAccess, recoveredRow}
 use Rattle.completion.proofs.Issuable.{issuable-call}
 use Rattle.consistency.specs.Disk.{DiskZone, Mishap, Harm, none, toReadOnly, toOffline, worsened, moved, struck, Choice, perform, performedBy, allows, takesAt, flushes, advanced, pointerAfter, landedBy, reported}
-use Rattle.consistency.specs.Story.{Story, isRead, freshSize, lastSizeAt, sameCondition, stays, afterMishap, afterSuccess, afterFailure, afterCommand}
-use Rattle.consistency.proofs.Whole.{At, at-start, at-end, at-write, at-fall, whole-min, whole-size}
+use Rattle.consistency.specs.Story.{Story, isRead, harmless, freshSize, lastSizeAt, sameCondition, stays, afterMishap, afterSuccess, afterFailure, afterCommand}
+use Rattle.consistency.proofs.Whole.{At, at-start, at-end, at-write, whole-min, whole-size}
 use Rattle.consistency.proofs.Sound.{Sound, says-condition, reported-shows, sound-moved, sound-struck}
 
 -- ---- WHAT THE DISK'S RECORD says
@@ -476,8 +476,12 @@ module _ {b : ℕ} {p : ErrorPolicy} {z : DiskZone} {s : Story} {r : Row} (block
   abbrev pointed : ℕ
   pointed = (new .pointer - new .start) * 512
 
-  tests : (k : CommandKind) → not (isRead k && (isHealthy (new .condition) && eqb (s .lastSize) (freshSize new))) ≡ not (nothingLost Sequential k (reported new) (r .size))
-  tests k = rw (fresh-size new, row-last a l reads) (same-test (isRead k) (new .condition) pointed (s .lastSize) ∙ ap not (sym (lost-test k new (s .lastSize))))
+  tests : (k : CommandKind) → not (harmless k new (s .lastSize)) ≡ not (nothingLost Sequential k (reported new) (r .size))
+  tests k =
+      ap (λ n. not (isRead k && (isHealthy (new .condition) && eqb (s .lastSize) n))) (fresh-size new)
+      ∙ same-test (isRead k) (new .condition) pointed (s .lastSize)
+      ∙ ap not (sym (lost-test k new (s .lastSize)))
+      ∙ ap (λ n. not (nothingLost Sequential k (reported new) n)) (sym (row-last a l reads))
 
   abbrev failing : Bool → Story
   failing t = record { quiet = true; lastSize = lastSizeAt true new (s .lastSize); recovered = s .recovered || t; readOnlyAtMount = s .readOnlyAtMount }
@@ -545,7 +549,7 @@ module _ {b : ℕ} {p : ErrorPolicy} {z : DiskZone} {s : Story} {r : Row} (block
       let c = placed m r x n f in
       let w : n % b ≡ 0 = rw same at (c .whole) in
       let o = at-place block a l m same x n f g in
-      rw (advanced-seq (z .kind) (z .pointer) (min (lands * b) n) (a .kind)) (at-write block z (z .pointer) (min (lands * b) n) (a .sound .point (a .kind) h) (whole-min block lands n w) (omega (arith, c .room, a .capacity)))
+      subst (At b z) (sym (advanced-seq (z .kind) (z .pointer) (min (lands * b) n) (a .kind))) (at-write block z (z .pointer) (min (lands * b) n) (a .sound .point (a .kind) h) (whole-min block lands n w) (omega (arith, c .room, a .capacity)))
   landed-at CommandKind.Write x n f false g lands h = a .sound .point (a .kind) h
   landed-at CommandKind.Reset x n f t g lands h = a .sound .point (a .kind) h
   landed-at CommandKind.Finish x n f t g lands h = a .sound .point (a .kind) h

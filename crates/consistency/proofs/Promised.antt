@@ -1,7 +1,7 @@
 -- What the invariant says of a quiet file: demand 3's comparison.
 -- Assumes nothing.
 use mathlib.Core.Bool.{Bool, true, false, not, cond, _&&_, _||_}
-use mathlib.Core.Path.{_≡_, refl, sym, ap, _∙_}
+use mathlib.Core.Path.{_≡_, refl, ap, _∙_}
 use Prim.Native.Nat.{ℕ, _-_, _*_}
 use Rattle.types.specs.declared.Row.{Row}
 use Rattle.types.specs.declared.Condition.{Condition}
@@ -9,7 +9,6 @@ use Rattle.types.specs.declared.Condition.the-variants.{Healthy, ReadOnly, Offl
 use Rattle.types.specs.declared.Access.{Access}
 use Rattle.types.specs.declared.ErrorPolicy.{ErrorPolicy}
 use Rattle.types.specs.declared.ErrorPolicy.the-variants.{RemountRo, ZoneRo, ZoneOffline, Repair}
-use Rattle.table.specs.Rows.{healthyRow, offlineRow}
 use Rattle.calls.specs.Checks.{isReadOnly}
 use Rattle.zones.specs.Zone.{isHealthy}
 use Rattle.consistency.specs.Disk.{DiskZone}

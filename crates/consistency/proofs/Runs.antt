@@ -1,13 +1,11 @@
 -- The small runs end as their table says: computed. And they are runs that demand 3 speaks of.
 -- Assumes nothing.
-use mathlib.Core.Bool.{Bool, true, false}
-use mathlib.Core.List.{List, [], _∷_, map}
+use mathlib.Core.Bool.{false}
+use mathlib.Core.List.{map}
 use mathlib.Core.Path.{_≡_, refl}
 use Prim.Native.String.{String}
 use Rattle.types.specs.declared.ErrorPolicy.{ErrorPolicy}
 use Rattle.types.specs.declared.ErrorPolicy.the-variants.{RemountRo, ZoneRo, ZoneOffline, Repair}
-use Rattle.types.specs.declared.Outstanding.the-variants.{Idle}
-use Rattle.types.specs.declared.MountAnswer.the-variants.{Mounted}
 use Rattle.wire.specs.Le.{le}
 use Rattle.table.specs.Rows.{rowAt, setRow}
 use Rattle.options.specs.declared.Options.the-variants as op
@@ -17,7 +15,7 @@ use Rattle.zones.specs.Zone.{goodRecord, goodZone}
 use Rattle.zones.specs.Report.{goodHeader, zonesFrom, zonesOf, goodRun, reportCheck}
 use Rattle.mount.specs.Files.{seqRows, runs, capacityOf, allHealthy, cnvRows}
 use Rattle.mount.specs.Fill.{words, fill}
-use Rattle.mount.specs.Mount.{Mounting, checkSuper, checkOptions, checkReport, fitAnswer, reportAnswer, fileZones, mountOf, tableAfter, mountAnswer, mountOutcome}
+use Rattle.mount.specs.Mount.{checkSuper, checkOptions, checkReport, fitAnswer, reportAnswer, fileZones, mountOf, tableAfter, mountAnswer, mountOutcome}
 use Rattle.mount.specs.Mount as mount
 use Rattle.calls.specs.Checks.{countsFit, lookupOf, soundRow, fileOf}
 use Rattle.calls.specs.Calls.{atOnce, readRow, writeRow, truncateRow, flushRow}
@@ -30,7 +28,7 @@ use Rattle.consistency.specs.Report.{little, recordThen, recordsThen, re
 use Rattle.consistency.specs.World.{zoneHolding, fileZone, mounted, step, run}
 use Rattle.consistency.specs.Cases.{report, superblock, lent, Case}
 use Rattle.consistency.specs.Runs.{disk, mountingUnder, runsOf, Runs}
-use Rattle.consistency.specs.Shows.{Shows, ShowsZones, none, next}
+use Rattle.consistency.specs.Shows.{Shows, none, next}
 use Rattle.consistency.specs.Demand.{Start}
 use Rattle.consistency.proofs.Cases.{super-plain, plainly, plainUnder}
 

@@ -1,8 +1,8 @@
 -- A zone whose record is good input keeps good records, whatever the disk does to it.
 -- Assumes nothing.
-use mathlib.Core.Bool.{Bool, true, false, not, cond, _&&_, _||_, false≢true}
+use mathlib.Core.Bool.{Bool, true, false, not, cond, _&&_, _||_}
 use mathlib.Core.Path.{_≡_, refl, sym, ap, _∙_, subst}
-use Prim.Native.Nat.{ℕ, _+_, _-_, _*_, _/_, _%_, _^_, _≤_, _<_, min, max}
+use Prim.Native.Nat.{ℕ, _+_, _/_, _%_, _^_, _≤_, _<_}
 use native.Mathlib.Omega.{arith}
 use lib.Dec.{leb, ltb, eqb}
 use borrow.Author.Tests.{leb-true, ltb-true, eqb-true, eqb-false, not-true, le-leb, lt-ltb, eq-eqb}
@@ -10,10 +10,9 @@ use Rattle.types.specs.declared.FileKind.{FileKind}
 use Rattle.types.specs.declared.FileKind.the-variants.{Conventional, Sequential}
 use Rattle.types.specs.declared.Condition.{Condition}
 use Rattle.types.specs.declared.Condition.the-variants.{Healthy, ReadOnly, Offline}
-use Rattle.types.specs.Blocks.{onBlock, wholeBlocks}
 use Rattle.calls.specs.Checks.{ofKind, isConventional}
 use Rattle.zones.specs.declared.Zone.{Zone}
-use Rattle.zones.specs.Zone.{conventional, sequential, healthy, conditionOf, isHealthy, conventionalCondition, sequentialCondition, goodLength, goodCapacity, goodEnd, goodType, goodCondition, goodPointer, pointed, pointsWell, goodRecord}
+use Rattle.zones.specs.Zone.{conventional, sequential, healthy, conditionOf, isHealthy, conventionalCondition, sequentialCondition, pointsWell, goodRecord}
 use Rattle.consistency.specs.Disk.{DiskZone, Mishap, Harm, none, toReadOnly, toOffline, worsened, moved, struck, reported, typeByte, healthyByte, conditionByte}
 use Rattle.consistency.specs.Shows.{ShowsZone, showsKind, showsHealthy, showsCondition}
 use Rattle.types.proofs.Tests.{both, and-left, and-right}
@@ -220,10 +219,6 @@ sound-of {b} {r} {z} w g base =
     }
 
 -- ---- THE DISK'S OWN RECORD shows the zone.
-reported-kind : (k : FileKind) → ofKind k (eqb (typeByte k) 1) (eqb (typeByte k) 2 || eqb (typeByte k) 3) ≡ true
-reported-kind Conventional = refl
-reported-kind Sequential = refl
-
 pub kind-shown : (k : FileKind) (r : Zone) → r .kind ≡ typeByte k → showsKind k r ≡ true
 kind-shown Conventional r e = eq-eqb _ _ e
 kind-shown Sequential r e = rw e

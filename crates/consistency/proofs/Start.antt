@@ -1,14 +1,14 @@
 -- What a mount answered 0 leaves has the invariant.
 -- Assumes nothing.
-use mathlib.Core.Bool.{Bool, true, false, not, cond, _&&_, _||_, false≢true}
+use mathlib.Core.Bool.{Bool, true, false, not, cond, _&&_, false≢true}
 use mathlib.Core.List.{List, [], _∷_, map}
 use mathlib.Core.Path.{_≡_, refl, sym, ap, _∙_, subst}
 use Prim.Native.Nat.{ℕ, zero, suc, _+_, _-_, _*_, _/_, _%_, _≤_, _<_}
 use native.Mathlib.Omega.{arith}
 use native.Mathlib.Nat.{zero-mod}
-use lib.Dec.{leb, ltb, eqb}
+use lib.Dec.{ltb}
 use lib.ListN.{length, getD, drop}
-use borrow.Author.Tests.{eqb-true, ltb-true, ltb-false}
+use borrow.Author.Tests.{ltb-true, ltb-false}
 use Rattle.types.specs.declared.Row.{Row}
 use Rattle.types.specs.declared.FileKind.{FileKind}
 use Rattle.types.specs.declared.FileKind.the-variants.{Conventional, Sequential}
@@ -16,7 +16,7 @@ use Rattle.types.specs.declared.Condition.{Condition}
 use Rattle.types.specs.declared.Condition.the-variants.{Healthy, ReadOnly, Offline}
 use Rattle.types.specs.declared.Access.{Access}
 use Rattle.types.specs.declared.ErrorPolicy.{ErrorPolicy}
-use Rattle.types.proofs.Tests.{and-left, and-right}
+use Rattle.types.proofs.Tests.{and-right}
 use Rattle.types.proofs.Blocks.{IsBlock}
 use Rattle.calls.specs.Checks.{isConventional, isReadOnly}
 use Rattle.zones.specs.declared.Zone.{Zone}
@@ -24,10 +24,10 @@ use Rattle.zones.specs.Zone.{isHealthy, healthy, conventional, sequential, writ
 use Rattle.zones.proofs.Laws.{zone-told, AllGood}
 use Rattle.mount.specs.Files.{fileRow, seqRow, rowIf, seqRows, startsConventional, runsWith, runs, joined, runRow, startOf, capacityOf, allHealthy, cnvRows}
 use Rattle.consistency.specs.Disk.{DiskZone}
-use Rattle.consistency.specs.Story.{Story, freshSize, atMount}
+use Rattle.consistency.specs.Story.{atMount}
 use Rattle.consistency.specs.Shows.{ShowsZone, ShowsZones, none, next}
-use Rattle.consistency.specs.World.{noZone, noStory, zoneHolding, isSeqFile}
-use Rattle.consistency.proofs.Whole.{At, whole-size, whole-next}
+use Rattle.consistency.specs.World.{noZone, zoneHolding}
+use Rattle.consistency.proofs.Whole.{whole-size, whole-next}
 use Rattle.consistency.proofs.Sound.{Sound, sound-of, says-conventional, says-sequential, says-condition}
 use Rattle.consistency.proofs.Keeps.{Agrees, State, live, dead, fresh-size}
 use Rattle.consistency.proofs.Promised.{shownRow}

@@ -3,9 +3,9 @@
 use mathlib.Core.Bool.{Bool, true, false, not, cond, _&&_}
 use mathlib.Core.List.{List, [], _∷_}
 use mathlib.Core.Path.{_≡_, refl, sym, ap, _∙_, subst}
-use Prim.Native.Nat.{ℕ, _+_, _-_, _*_, _≤_, _<_, min, max}
+use Prim.Native.Nat.{ℕ, _<_}
 use native.Mathlib.Omega.{arith}
-use lib.ListN.{length, getD, set}
+use lib.ListN.{getD, set}
 use Rattle.types.specs.declared.Row.{Row}
 use Rattle.types.specs.declared.Volume.{Volume}
 use Rattle.types.specs.declared.Mount.{Mount}
@@ -26,21 +26,20 @@ use Rattle.types.proofs.Blocks.{IsBlock}
 use Rattle.table.specs.declared.Slot.the-variants.{Good}
 use Rattle.table.specs.Rows.{rowAt}
 use Rattle.calls.specs.Checks.{ofKind, filesOf}
-use Rattle.calls.specs.Calls.{answerOf, answered, settled, readRow, writeRow, truncateRow, flushRow}
-use Rattle.calls.specs.Told.{Passed}
+use Rattle.calls.specs.Calls.{answerOf, answered, settled, writeRow, truncateRow, flushRow}
 use Rattle.calls.proofs.Laws.{call-passed, reached-sound}
 use Rattle.zones.specs.declared.Zone.{Zone}
 use Rattle.completion.specs.declared.Digest.{Digest}
 use Rattle.completion.specs.declared.held.Pending.the-variants as pending
-use Rattle.completion.specs.Held.{Ready, pendingOf, pendingBy, issuable}
-use Rattle.completion.specs.Completions.{Completion, good, failed, malformed, stored, countOf, rowAfter, recoveredRow, nothingLost, recordFits, digestOf, digestPending}
+use Rattle.completion.specs.Held.{Ready, pendingOf, pendingBy}
+use Rattle.completion.specs.Completions.{Completion, good, failed, stored, countOf, recoveredRow, nothingLost, recordFits, digestOf}
 use Rattle.completion.proofs.Issuable.{issuable-complete}
 use Rattle.consistency.specs.Disk.{DiskZone, Mishap, Choice, Performed, reported, moved, worsened, fallen, struck, perform, performedBy, allows}
-use Rattle.consistency.specs.Story.{Story, afterMishap, afterCommand}
-use Rattle.consistency.specs.World.{World, noZone, noStory, zoneHolding, isSeqFile, Event, call, mishap, doing, stray, truthful, performAt, digestedTo, digesting, settledAt, doneBy, strayBy, harmed, step, run}
-use Rattle.consistency.proofs.Sound.{Sound, sound-struck}
-use Rattle.consistency.proofs.Keeps.{Agrees, keeps-mishap, keeps-command, failedRow, digestedRow}
-use Rattle.consistency.proofs.Bridge.{noRow, Listed, Became, listed-became}
+use Rattle.consistency.specs.Story.{afterCommand}
+use Rattle.consistency.specs.World.{World, noZone, noStory, zoneHolding, isSeqFile, Event, call, mishap, doing, stray, truthful, performAt, digestedTo, settledAt, doneBy, strayBy, step, run}
+use Rattle.consistency.proofs.Sound.{sound-struck}
+use Rattle.consistency.proofs.Keeps.{keeps-mishap, keeps-command, digestedRow}
+use Rattle.consistency.proofs.Bridge.{noRow, Listed, listed-became}
 use Rattle.consistency.proofs.Files.{Files, Own, own, alter, Inside, inside-moved, Covers, covers-set, covers-same, set-keeps, kinds, kinds-set}
 use Rattle.consistency.proofs.Fits.{Within, within, report-fits, inside-fits}
 use Rattle.consistency.proofs.Digests.{holdOf, Digested, good-digested, failed-digested}

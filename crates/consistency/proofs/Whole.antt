@@ -1,7 +1,7 @@
 -- Pointers that lie on a block stay on a block, whatever the disk does.
 -- Assumes nothing.
 use mathlib.Core.Path.{_≡_}
-use Prim.Native.Nat.{ℕ, _+_, _-_, _*_, _/_, _%_, _≤_, _<_, min, max}
+use Prim.Native.Nat.{ℕ, _+_, _-_, _*_, _/_, _%_, _≤_, min, max}
 use native.Mathlib.Omega.{arith}
 use Rattle.types.proofs.Blocks.{IsBlock, small, large}
 use Rattle.consistency.specs.Disk.{DiskZone}

@@ -6,8 +6,7 @@ use mathlib.Core.List.{List, [], _∷_, _++_, map}
 use mathlib.Core.Path.{_≡_}
 use Prim.Native.Nat.{ℕ, _*_}
 use lib.ListN.{replicate}
-use Rattle.types.specs.declared.FileKind.the-variants.{Conventional, Sequential}
-use Rattle.types.specs.declared.Mount.{Mount}
+use Rattle.types.specs.declared.FileKind.the-variants.{Sequential}
 use Rattle.types.specs.declared.Call.{Call}
 use Rattle.types.specs.declared.Answer.{Answer}
 use Rattle.types.specs.Numbers.{answerNumber, answerValues, mountNumber, mountValues}

@@ -14,7 +14,7 @@ use Rattle.table.specs.Rows.{rowAt}
 use Rattle.options.specs.Options.{optionsOf}
 use Rattle.mount.specs.Mount.{mountOutcome, policyOf}
 use Rattle.completion.specs.Completions.{digestOf}
-use Rattle.consistency.specs.Disk.{DiskZone, Choice, Performed}
+use Rattle.consistency.specs.Disk.{DiskZone, Choice}
 use Rattle.consistency.specs.Story.{Story}
 use Rattle.consistency.specs.Shows.{Shows}
 use Rattle.consistency.specs.Report.{reportOf}

@@ -1,6 +1,6 @@
 -- The disk's rules, on one zone: which commands it does, what they move, and what can befall it. Numbers of a zone are in sectors of
 -- 512 bytes, those of a command and the block `b` in bytes.
-use mathlib.Core.Bool.{Bool, true, false, not, cond, _&&_, _||_}
+use mathlib.Core.Bool.{Bool, true, false, not, cond, _&&_}
 use Prim.Native.Nat.{ℕ, _+_, _-_, _*_, _/_, min, max}
 use lib.Dec.{eqb}
 use Rattle.types.specs.declared.FileKind.{FileKind}

@@ -13,7 +13,7 @@ use Rattle.types.specs.Codes.{accessCode}
 use Rattle.options.specs.Text.{ascii}
 use Rattle.mount.specs.Files.{seqRow}
 use Rattle.mount.specs.Mount.{Mounting, mountOutcome}
-use Rattle.consistency.specs.Disk.{DiskZone, Harm, none, toReadOnly, Mishap, Choice, reported}
+use Rattle.consistency.specs.Disk.{DiskZone, none, toReadOnly, Mishap, reported}
 use Rattle.consistency.specs.World.{World, Event, call, mishap, doing, run, mounted, zoneOf, storyOf}
 use Rattle.consistency.specs.Demand.{Start}
 use Rattle.consistency.specs.Cases.{report, superblock, lent, sizeIn, accessIn, Case, is}

@@ -1,6 +1,6 @@
 -- The mount value and the words of both tables as calls and completions leave them, the disk, the story of each zone; what can happen;
 -- and what comes of it. Each call and completion goes through the definition that its contract cites.
-use mathlib.Core.Bool.{Bool, true, false, not, cond, _&&_}
+use mathlib.Core.Bool.{Bool, false, not, cond, _&&_}
 use mathlib.Core.List.{List, [], _∷_, map}
 use Prim.Native.Nat.{ℕ, zero, suc, _+_}
 use lib.Dec.{ltb}
@@ -10,7 +10,6 @@ use Rattle.types.specs.declared.FileKind.the-variants.{Conventional, Sequential
 use Rattle.types.specs.declared.Condition.the-variants.{Offline}
 use Rattle.types.specs.declared.Command.{Command}
 use Rattle.types.specs.declared.Call.{Call}
-use Rattle.types.specs.declared.Held.{Held}
 use Rattle.types.specs.declared.Outstanding.{Outstanding}
 use Rattle.types.specs.declared.Outstanding.the-variants.{Idle, Busy}
 use Rattle.types.specs.declared.Mount.{Mount}

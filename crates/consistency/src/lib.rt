@@ -1,5 +1,4 @@
 // The disk's rules, demand 3, the frame claim and the starred cases, stated and proved of the definitions that the contracts cite:
 // nothing runs here.
-use zones;
 
 pub fn nothing() {}

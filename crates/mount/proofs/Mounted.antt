@@ -129,7 +129,8 @@ module _ (block : ℕ) (check : SuperCheck) (parsed : Options) (aggregate : Bool
       record { frame = good .0; sound = good .1; cnvs = omega (arith, a .cnvs, a .cnvFit); seqs = omega (arith, a .seqs, a .seqFit) }
 
 -- THE OUTCOME, from its parts as the code finds them
-pub outcome-is : (block : ℕ) (sb text b cnv seq : List ℕ) (read : SuperRead) (parsed : Options) (cnvs seqs : ℕ) (answer : MountAnswer) (policy : ErrorPolicy) (mount : Mount) (cnv′ seq′ : List ℕ)
+pub outcome-is : (block : ℕ) (sb text b cnv seq : List ℕ)
+    {read : SuperRead} {parsed : Options} {cnvs seqs : ℕ} {answer : MountAnswer} {policy : ErrorPolicy} {mount : Mount} {cnv′ seq′ : List ℕ}
     → read ≡ superRead sb → parsed ≡ optionsOf text → cnvs ≡ rowsLent (length cnv) → seqs ≡ rowsLent (length seq)
     → answer ≡ answerOf block (read .check) parsed (read .fields .aggregate) b cnvs seqs
     → policy ≡ policyOf parsed → mount ≡ mountOf answer block (read .fields) policy
@@ -138,7 +139,7 @@ pub outcome-is : (block : ℕ) (sb text b cnv seq : List ℕ) (read : SuperRead)
     → (answer ≡ mountOutcome block sb text b cnv seq .answer) × (mount ≡ mountOutcome block sb text b cnv seq .mount)
     × (cnv′ ≡ mountOutcome block sb text b cnv seq .cnv) × (seq′ ≡ mountOutcome block sb text b cnv seq .seq)
 unfolding mountOutcome mountAnswer
-outcome-is block sb text b cnv seq read parsed cnvs seqs answer policy mount cnv′ seq′ r p c s a q m t u =
+outcome-is block sb text b cnv seq {answer = answer} r p c s a q m t u =
     let answered : answer ≡ mountAnswer block sb text b cnv seq = cc in
     (answered, cc, cc, cc)
 

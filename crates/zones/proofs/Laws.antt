@@ -106,17 +106,20 @@ zones-done b i h = drop-of-length-le (zonesOf b) {i = i} (omega (arith, zones-le
 
 -- GOOD ZONES
 
-pub run-good : (unit e : ℕ) (z : Zone) (zs l : List Zone) → l ≡ z ∷ zs → goodZone unit e z ≡ true → goodRun unit e l ≡ goodRun unit (z .start + z .length) zs + 1
+-- at zone i, and past the last
+pub run-good : (unit e : ℕ) (b : List ℕ) (i : ℕ) (z : Zone) → z ≡ zoneOf b i → i < zoneCount b → goodZone unit e z ≡ true
+    → goodRun unit e (drop i (zonesOf b)) ≡ goodRun unit (z .start + z .length) (drop (i + 1) (zonesOf b)) + 1
 unfolding goodRun
-run-good unit e z zs l q h = rw (q, h)
+run-good unit e b i z q h g = rw (zones-next b i z q h, g)
 
-pub run-bad : (unit e : ℕ) (z : Zone) (zs l : List Zone) → l ≡ z ∷ zs → goodZone unit e z ≡ false → goodRun unit e l ≡ 0
+pub run-bad : (unit e : ℕ) (b : List ℕ) (i : ℕ) (z : Zone) → z ≡ zoneOf b i → i < zoneCount b → goodZone unit e z ≡ false
+    → goodRun unit e (drop i (zonesOf b)) ≡ 0
 unfolding goodRun
-run-bad unit e z zs l q h = rw (q, h)
+run-bad unit e b i z q h g = rw (zones-next b i z q h, g)
 
-pub run-end : (unit e : ℕ) (l : List Zone) → l ≡ [] → goodRun unit e l ≡ 0
+pub run-end : (unit e : ℕ) (b : List ℕ) (i : ℕ) → zoneCount b ≤ i → goodRun unit e (drop i (zonesOf b)) ≡ 0
 unfolding goodRun
-run-end unit e l q = rw q
+run-end unit e b i h = rw (zones-done b i h)
 
 -- every zone is good where the one before it ended
 unfoldable pub AllGood : ℕ → ℕ → List Zone → Type 0

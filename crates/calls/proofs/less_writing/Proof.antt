@@ -4,7 +4,7 @@ use Rattle.calls.proofs.less_writing.Statement.{statement}
 use Rattle.calls.proofs.less_writing.Tie as tie
 
 sub-result : tie.Need-sub-result
-sub-result c = and-le-l (c .args .mode) 0o222
+sub-result c = and-le-l _ _
 
 returns : tie.Need-returns
 returns c = search needs

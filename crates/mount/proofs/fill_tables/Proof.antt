@@ -7,10 +7,14 @@ enum-told : tie.Need-enum-told
 enum-told c = search needs
 
 write-cnv-requires : tie.Need-write-cnv-requires
-write-cnv-requires c κs = let f = c .before .before .before .before .before .before .pre _ _ (c .before .enum-told .given .1) in (f .frame, f .sound, f .cnvs)
+write-cnv-requires c κs =
+    let f = c .before .before .before .before .before .before .pre _ _ (c .before .enum-told .given .1) in
+    (f .frame, f .sound, f .cnvs)
 
 write-seq-requires : tie.Need-write-seq-requires
-write-seq-requires c κs = let f = c .before .before .before .before .before .before .before .before .before .before .pre _ _ (c .before .before .before .before .before .enum-told .given .1) in (f .frame, f .sound, f .seqs)
+write-seq-requires c κs =
+    let f = c .before .before .before .before .before .before .before .before .before .before .pre _ _ (c .before .before .before .before .before .enum-told .given .1) in
+    (f .frame, f .sound, f .seqs)
 
 enum-told-2 : tie.Need-enum-told-2
 enum-told-2 c = search needs
@@ -23,7 +27,8 @@ same-length-2 c = search needs
 
 returns : tie.Need-returns
 unfolding tableAfter
-returns c = rw (c .before .before .before .before .before .before .before .before .enum-told .given .1) (c .before .before .before .before .before .before .write-cnv .ensures, c .before .before .write-seq .ensures)
+returns c =
+    rw (c .before .before .before .before .before .before .before .before .enum-told .given .1) (c .before .before .before .before .before .before .write-cnv .ensures, c .before .before .write-seq .ensures)
 
 returns-2 : tie.Need-returns-2
 unfolding tableAfter

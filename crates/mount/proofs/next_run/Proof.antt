@@ -17,11 +17,18 @@ no-run-requires c κs = search needs
 
 returns : tie.Need-returns
 unfolding nextRun
-returns c = rw (c .before .before .before .before .before .before .before .is-healthy .ensures, ← c .before .before .before .before .before .before .is-conventional .ensures, c .before .before .before .before .if1 .taken, c .before .before .before .if2 .taken)
+returns c =
+    rw (
+      c .before .before .before .before .before .before .before .is-healthy .ensures,
+      ← c .before .before .before .before .before .before .is-conventional .ensures,
+      c .before .before .before .before .if1 .taken,
+      c .before .before .before .if2 .taken,
+    )
 
 returns-2 : tie.Need-returns-2
 unfolding nextRun
-returns-2 c = rw (c .before .before .before .before .is-healthy .ensures, ← c .before .before .before .is-conventional .ensures, c .before .if1 .taken, c .if2 .left)
+returns-2 c =
+    rw (c .before .before .before .before .is-healthy .ensures, ← c .before .before .before .is-conventional .ensures, c .before .if1 .taken, c .if2 .left)
 
 returns-3 : tie.Need-returns-3
 unfolding nextRun

@@ -13,7 +13,9 @@ seq-row-requires : tie.Need-seq-row-requires
 seq-row-requires c κs = (search needs, sym (c .before .before .is-sequential .ensures) ∙ c .before .if1 .taken)
 
 put-row-requires : tie.Need-put-row-requires
-put-row-requires c κs = omega (arith, ap (λ y. cond {A = ℕ} y 1 0) (sym (c .before .before .before .is-sequential .ensures) ∙ c .before .before .if1 .taken))
+put-row-requires c κs =
+    let yes = sym (c .before .before .before .is-sequential .ensures) ∙ c .before .before .if1 .taken in
+    omega (arith, ap (λ y. cond {A = ℕ} y 1 0) yes)
 
 add-result : tie.Need-add-result
 add-result c = search needs
@@ -22,7 +24,9 @@ same-length : tie.Need-same-length
 same-length c = search needs
 
 returns : tie.Need-returns
-returns c = let yes = sym (c .before .before .before .before .before .before .is-sequential .ensures) ∙ c .before .before .before .before .before .if1 .taken in (rw yes, rw (yes, c .before .before .put-row .ensures, c .before .before .before .seq-row .ensures))
+returns c =
+    let yes = sym (c .before .before .before .before .before .before .is-sequential .ensures) ∙ c .before .before .before .before .before .if1 .taken in
+    (rw yes, rw (yes, c .before .before .put-row .ensures, c .before .before .before .seq-row .ensures))
 
 returns-2 : tie.Need-returns-2
 returns-2 c = let no = sym (c .before .is-sequential .ensures) ∙ c .if1 .left in rw no (omega arith, refl)

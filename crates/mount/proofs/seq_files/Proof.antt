@@ -1,15 +1,13 @@
-use mathlib.Core.Bool.{cond}
-use Prim.Native.Nat.{ℕ}
-use Rattle.zones.specs.Zone.{sequential}
-use Rattle.mount.proofs.Turns.{seq-next, seq-none, turn-count}
+use Rattle.mount.proofs.Turns.{seq-turn, seq-end, turn-count}
 use Rattle.mount.specs.Files.{seqRows}
 use Rattle.mount.specs.Mount.{fileZones}
 use Rattle.zones.specs.Report.{zonesOf}
-use Rattle.zones.proofs.Laws.{zones-next, zones-done}
+use Rattle.zones.specs.Zone.{sequential}
 use lib.ListN.{length, drop}
 use native.Mathlib.Omega.{arith}
+use mathlib.Core.Bool.{cond}
 use mathlib.Core.Path.{_≡_, _∙_, ap}
-use Prim.Native.Nat.{_+_, _-_, _≤_}
+use Prim.Native.Nat.{ℕ, _+_, _-_, _≤_}
 use borrow.Author.Needs.{needs}
 use Rattle.mount.proofs.seq_files.Statement.{statement}
 use Rattle.mount.proofs.seq_files.Tie as tie
@@ -47,14 +45,16 @@ loop-less : tie.Need-loop-less Inv-loop μ-loop
 loop-less c = search needs
 
 loop-again : tie.Need-loop-again Inv-loop μ-loop
-loop-again c = let l = c .before .before .before .before .loop in
+loop-again c =
     let z = c .before .before .read-zone in
-    let next = zones-next (c .before .before .before .before .before .before .before .args .b .now) (l .i) (z .result) (z .ensures) (omega arith) in
-    let one : c .files .result ≡ cond (sequential (z .result)) 1 0 = c .files .ensures .0 ∙ ap (λ y. cond {A = ℕ} y 1 0) (c .before .is-sequential .ensures) in
-    (search needs, search needs, omega (arith, turn-count _ _ (sequential (z .result)) _ (seq-next (z .result) _ _ next)))
+    let y = sequential (z .result) in
+    let one : c .files .result ≡ cond y 1 0 = c .files .ensures .0 ∙ ap (λ x. cond {A = ℕ} x 1 0) (c .before .is-sequential .ensures) in
+    let rows = seq-turn (c .before .before .before .before .before .before .before .args .b .now) (c .before .before .before .before .loop .i) (z .result) (z .ensures) (omega arith) in
+    (search needs, search needs, omega (arith, turn-count _ _ y _ rows))
 
 returns : tie.Need-returns Inv-loop μ-loop
-returns c = let none = seq-none _ (zones-done (c .before .before .before .before .args .b .now) (c .before .loop .i) (omega arith)) in
+returns c =
+    let none = seq-end (c .before .before .before .before .args .b .now) (c .before .loop .i) (omega arith) in
     (omega (arith, ap length none), search needs)
 
 pub seq-files-spec : {M : Type 1} → statement M

@@ -11,7 +11,8 @@ is-healthy-requires : tie.Need-is-healthy-requires
 is-healthy-requires c κs = search needs
 
 written-size-requires : tie.Need-written-size-requires
-written-size-requires c κs = (search needs, both (c .before .before .before .pre .1) (sym (c .before .is-healthy .ensures) ∙ c .if1 .taken))
+written-size-requires c κs =
+    (search needs, both (c .before .before .before .pre .1) (sym (c .before .is-healthy .ensures) ∙ c .if1 .taken))
 
 healthy-row-requires : tie.Need-healthy-row-requires
 healthy-row-requires c κs = search needs
@@ -20,7 +21,14 @@ offline-row-requires : tie.Need-offline-row-requires
 offline-row-requires c κs = search needs
 
 returns : tie.Need-returns
-returns c = rw (c .healthy-row .ensures, c .before .before .before .before .bytes-of .ensures, c .before .written-size .ensures, ← c .before .before .before .is-healthy .ensures, c .before .before .if1 .taken)
+returns c =
+    rw (
+      c .healthy-row .ensures,
+      c .before .before .before .before .bytes-of .ensures,
+      c .before .written-size .ensures,
+      ← c .before .before .before .is-healthy .ensures,
+      c .before .before .if1 .taken,
+    )
 
 returns-2 : tie.Need-returns-2
 returns-2 c = rw (c .offline-row .ensures, c .before .before .before .bytes-of .ensures, ← c .before .before .is-healthy .ensures, c .before .if1 .left)

@@ -1,5 +1,5 @@
 use Rattle.mount.proofs.Tables.{fill-from}
-use Rattle.mount.proofs.Turns.{seq-next, seq-none, turn-count, turn-fill, fill-none}
+use Rattle.mount.proofs.Turns.{seq-turn, seq-end, sound-turn, turn-count, turn-fill, end-fill}
 use Rattle.mount.specs.Files.{seqRows}
 use Rattle.mount.specs.Mount.{fileZones}
 use Rattle.mount.specs.Walk.{fillFrom}
@@ -7,10 +7,9 @@ use Rattle.table.specs.Rows.{rowsLent}
 use Rattle.zones.specs.Report.{zonesOf}
 use Rattle.zones.specs.Told.{AllSound}
 use Rattle.zones.specs.Zone.{sequential}
-use Rattle.zones.proofs.Laws.{zones-next, zones-done, sound-next}
 use lib.ListN.{length, drop}
 use native.Mathlib.Omega.{arith}
-use mathlib.Core.Path.{_≡_, _∙_, ap, sym}
+use mathlib.Core.Path.{_≡_, _∙_}
 use Prim.Native.Nat.{_+_, _-_, _≤_}
 use borrow.Author.Needs.{needs}
 use Rattle.mount.proofs.write_seq.Statement.{statement}
@@ -37,10 +36,12 @@ read-zone-requires : tie.Need-read-zone-requires Inv-loop μ-loop
 read-zone-requires c κs = search needs
 
 put-seq-requires : tie.Need-put-seq-requires Inv-loop μ-loop
-put-seq-requires c κs = let l = c .before .before .before .loop in
+put-seq-requires c κs =
+    let b = c .before .before .before .before .before .before .before .args .b .now in
+    let l = c .before .before .before .loop in
     let z = c .before .read-zone in
-    let next = zones-next (c .before .before .before .before .before .before .before .args .b .now) (l .i) (z .result) (z .ensures) (omega arith) in
-    (sound-next _ _ _ next (l .inv .2) .0, omega (arith, turn-count _ _ (sequential (z .result)) _ (seq-next (z .result) _ _ next)))
+    let rows = seq-turn b (l .i) (z .result) (z .ensures) (omega arith) in
+    (sound-turn b (l .i) (z .result) (z .ensures) (omega arith) (l .inv .2) .0, omega (arith, turn-count _ _ (sequential (z .result)) _ rows))
 
 add-i : tie.Need-add-i Inv-loop μ-loop
 add-i c = search needs
@@ -49,26 +50,29 @@ loop-less : tie.Need-loop-less Inv-loop μ-loop
 loop-less c = search needs
 
 loop-again : tie.Need-loop-again Inv-loop μ-loop
-loop-again c = let l = c .before .before .before .before .before .before .loop in
+loop-again c =
+    let b = c .before .before .before .before .before .before .before .before .before .before .args .b .now in
+    let l = c .before .before .before .before .before .before .loop in
     let z = c .before .before .before .before .read-zone in
     let p = c .before .before .put-seq in
-    let next = zones-next (c .before .before .before .before .before .before .before .before .before .before .args .b .now) (l .i) (z .result) (z .ensures) (omega arith) in
-    let rows = seq-next (z .result) _ _ next in (
+    let y = sequential (z .result) in
+    let rows = seq-turn b (l .i) (z .result) (z .ensures) (omega arith) in (
       search needs,
       search needs,
-      sound-next _ _ _ next (l .inv .2) .1,
-      omega (arith, turn-count _ _ (sequential (z .result)) _ rows, p .kept .0),
+      sound-turn b (l .i) (z .result) (z .ensures) (omega arith) (l .inv .2) .1,
+      omega (arith, turn-count _ _ y _ rows, p .kept .0),
       p .kept .0 ∙ l .inv .4,
-      turn-fill (l .t) (p .last .0) (l .to) (p .result) _ _ (sequential (z .result)) _ rows (p .ensures .0) (p .ensures .1) ∙ l .inv .5,
+      turn-fill (l .t) (p .last .0) (l .to) (p .result) _ _ y _ rows (p .ensures .0) (p .ensures .1) ∙ l .inv .5,
     )
 
 same-length : tie.Need-same-length Inv-loop μ-loop
 same-length c = c .before .loop .inv .4
 
 returns : tie.Need-returns Inv-loop μ-loop
-returns c = let l = c .before .loop in
-    let none = seq-none _ (zones-done (c .before .before .before .before .before .args .b .now) (l .i) (omega arith)) in
-    sym (ap (fillFrom (l .t) (l .to)) none ∙ fill-none (l .t) (l .to)) ∙ l .inv .5 ∙ fill-from (c .before .before .before .before .before .args .t .now) _ (c .before .before .before .before .before .pre .2)
+returns c =
+    let a = c .before .before .before .before .before .args in
+    let l = c .before .loop in
+    end-fill (l .t) (l .to) _ (seq-end (a .b .now) (l .i) (omega arith)) ∙ l .inv .5 ∙ fill-from (a .t .now) _ (c .before .before .before .before .before .pre .2)
 
 pub write-seq-spec : {M : Type 1} → statement M
 write-seq-spec =

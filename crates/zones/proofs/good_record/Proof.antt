@@ -23,7 +23,15 @@ good-pointer-requires c κs = search needs
 
 returns : tie.Need-returns
 unfolding goodRecord
-returns c = rw (c .before .before .before .before .before .good-length .ensures, c .before .before .before .before .good-capacity .ensures, c .before .before .before .good-end .ensures, c .before .before .good-type .ensures, c .before .good-condition .ensures, c .good-pointer .ensures)
+returns c =
+    rw (
+      c .before .before .before .before .before .good-length .ensures,
+      c .before .before .before .before .good-capacity .ensures,
+      c .before .before .before .good-end .ensures,
+      c .before .before .good-type .ensures,
+      c .before .good-condition .ensures,
+      c .good-pointer .ensures,
+    )
 
 pub good-record-spec : {M : Type 1} → statement M
 good-record-spec =

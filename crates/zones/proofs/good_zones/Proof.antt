@@ -1,7 +1,6 @@
-use Rattle.zones.proofs.Laws.{zone-sound, zones-next, zones-done, run-good, run-bad, run-end}
+use Rattle.zones.proofs.Laws.{zone-sound, run-good, run-bad, run-end}
 use Rattle.zones.specs.Report.{zonesOf, goodRun}
 use native.Mathlib.Omega.{arith}
-use mathlib.Core.List.{_∷_}
 use mathlib.Core.Path.{_≡_, _∙_, sym}
 use Prim.Native.Nat.{_+_, _-_, _≤_}
 use lib.ListN.{drop}
@@ -28,7 +27,10 @@ good-zone-requires : tie.Need-good-zone-requires Inv-loop μ-loop
 good-zone-requires c κs = search needs
 
 add-expected : tie.Need-add-expected Inv-loop μ-loop
-add-expected c = let s = zone-sound (c .before .before .before .before .before .before .before .before .args .unit) (c .before .before .before .before .before .loop .expected) (c .before .before .before .zone-of .result) (sym (c .before .before .good-zone .ensures) ∙ c .before .if1 .taken) in omega arith
+add-expected c =
+    let good = sym (c .before .before .good-zone .ensures) ∙ c .before .if1 .taken in
+    let s = zone-sound (c .before .before .before .before .before .before .before .before .args .unit) (c .before .before .before .before .before .loop .expected) (c .before .before .before .zone-of .result) good in
+    omega arith
 
 add-i : tie.Need-add-i Inv-loop μ-loop
 add-i c = search needs
@@ -37,19 +39,26 @@ loop-less : tie.Need-loop-less Inv-loop μ-loop
 loop-less c = search needs
 
 loop-again : tie.Need-loop-again Inv-loop μ-loop
-loop-again c = let l = c .before .before .before .before .before .loop in
+loop-again c =
+    let a = c .before .before .before .before .before .before .before .before .args in
+    let l = c .before .before .before .before .before .loop in
     let z = c .before .before .before .zone-of in
-    let next = zones-next (c .before .before .before .before .before .before .before .before .args .b .now) (l .i) (z .result) (z .ensures) (omega arith) in
-    (search needs, omega (arith, run-good (c .before .before .before .before .before .before .before .before .args .unit) (l .expected) (z .result) _ _ next (sym (c .before .before .good-zone .ensures) ∙ c .before .if1 .taken)))
+    let good = sym (c .before .before .good-zone .ensures) ∙ c .before .if1 .taken in
+    (search needs, omega (arith, run-good (a .unit) (l .expected) (a .b .now) (l .i) (z .result) (z .ensures) (omega arith) good))
 
 returns : tie.Need-returns Inv-loop μ-loop
-returns c = let l = c .before .before .before .before .loop in
+returns c =
+    let a = c .before .before .before .before .before .before .before .args in
+    let l = c .before .before .before .before .loop in
     let z = c .before .before .zone-of in
-    let next = zones-next (c .before .before .before .before .before .before .before .args .b .now) (l .i) (z .result) (z .ensures) (omega arith) in
-    omega (arith, run-bad (c .before .before .before .before .before .before .before .args .unit) (l .expected) (z .result) _ _ next (sym (c .before .good-zone .ensures) ∙ c .if1 .left))
+    let bad = sym (c .before .good-zone .ensures) ∙ c .if1 .left in
+    omega (arith, run-bad (a .unit) (l .expected) (a .b .now) (l .i) (z .result) (z .ensures) (omega arith) bad)
 
 returns-2 : tie.Need-returns-2 Inv-loop μ-loop
-returns-2 c = let l = c .before .loop in omega (arith, run-end (c .before .before .before .before .args .unit) (l .expected) _ (zones-done (c .before .before .before .before .args .b .now) (l .i) (omega arith)))
+returns-2 c =
+    let a = c .before .before .before .before .args in
+    let l = c .before .loop in
+    omega (arith, run-end (a .unit) (l .expected) (a .b .now) (l .i) (omega arith))
 
 pub good-zones-spec : {M : Type 1} → statement M
 good-zones-spec =

@@ -39,8 +39,7 @@ enum-told-2 c = search needs
 returns-3 : tie.Need-returns-3
 unfolding pendingOf
 returns-3 c =
-    let fit = sym (c .before .before .before .before .counts-fit .ensures .0) ∙ not-false _ (c .before .before .before .if1 .left) in
-    simp (c .before .before .before .before .before .before .before .outstanding .given .1, file-none _ _ _ _ _ fit (sym (c .before .before .lookup .ensures) ∙ c .enum-told2 .given .1))
+    simp (c .before .before .before .before .before .before .before .outstanding .given .1, file-none _ _ _ _ _ (sym (c .before .before .before .before .counts-fit .ensures .0) ∙ not-false _ (c .before .before .before .if1 .left)) (sym (c .before .before .lookup .ensures) ∙ c .enum-told2 .given .1))
 
 sound-slot-requires : tie.Need-sound-slot-requires
 sound-slot-requires c κs = c .before .before .before .before .before .counts-fit .ensures .1 (not-false _ (c .before .before .before .before .if1 .left))
@@ -51,8 +50,7 @@ held-on-requires c κs = (c .before .before .before .before .before .before .cou
 returns-4 : tie.Need-returns-4
 unfolding pendingOf
 returns-4 c =
-    let fit = sym (c .before .before .before .before .before .before .before .counts-fit .ensures .0) ∙ not-false _ (c .before .before .before .before .before .before .if1 .left) in
-    simp (c .before .before .before .before .before .before .before .before .before .before .outstanding .given .1, file-found _ _ _ _ _ fit (sym (c .before .before .before .before .before .lookup .ensures) ∙ c .before .before .before .slot .given .1), c .held-on .ensures, c .before .sound-slot .ensures .0)
+    simp (c .before .before .before .before .before .before .before .before .before .before .outstanding .given .1, file-found _ _ _ _ _ (sym (c .before .before .before .before .before .before .before .counts-fit .ensures .0) ∙ not-false _ (c .before .before .before .before .before .before .if1 .left)) (sym (c .before .before .before .before .before .lookup .ensures) ∙ c .before .before .before .slot .given .1), c .held-on .ensures, c .before .sound-slot .ensures .0)
 
 pub check-pending-spec : {M : Type 1} → statement M
 check-pending-spec =
