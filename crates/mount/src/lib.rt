@@ -229,7 +229,7 @@ fn report_answer(block: u64, aggregate: bool, b: &[u8], cnvs: usize, seqs: usize
     requires { ⌜ goodBlock block ≡ true ⌝ }
     ensures { λ r. ⌜ r ≡ reportAnswer block aggregate (now (b .entry)) cnvs seqs ⌝ }
 {
-    let check = zones::check_report(b, zones::block_sectors(block));
+    let check = report::check_report(b, zones::block_sectors(block));
     match check {
         ReportCheck::Good => fit_answer(b, aggregate, cnvs, seqs),
         ReportCheck::Bad(r) => MountAnswer::Refused(r),
