@@ -146,7 +146,7 @@ fn seq_files(b: &[u8]) -> usize
     let count = zones::zone_count(b);
     let mut n = 0;
     for i in FIRST_FILE..count {
-        let z = zones::zone_of(b, i);
+        let z = report::read_zone(b, i);
         n += files(zones::is_sequential(z));
     }
     n
@@ -161,7 +161,7 @@ fn cnv_files(b: &[u8], aggregate: bool) -> usize
     let mut n = 0;
     let mut run = no_run();
     for i in FIRST_FILE..count {
-        let z = zones::zone_of(b, i);
+        let z = report::read_zone(b, i);
         n += files(run_ends(aggregate, run, z));
         run = next_run(aggregate, run, z);
     }
@@ -189,7 +189,7 @@ fn write_seq(b: &[u8], t: &mut [u64])
     let count = zones::zone_count(b);
     let mut to = 0;
     for i in FIRST_FILE..count {
-        let z = zones::zone_of(b, i);
+        let z = report::read_zone(b, i);
         to = put_seq(t, to, z);
     }
 }
@@ -203,7 +203,7 @@ fn write_cnv(b: &[u8], aggregate: bool, t: &mut [u64])
     let mut to = 0;
     let mut run = no_run();
     for i in FIRST_FILE..count {
-        let z = zones::zone_of(b, i);
+        let z = report::read_zone(b, i);
         to = put_if(t, to, run_ends(aggregate, run, z), row_of_run(run));
         run = next_run(aggregate, run, z);
     }
@@ -229,7 +229,7 @@ fn report_answer(block: u64, aggregate: bool, b: &[u8], cnvs: usize, seqs: usize
     requires { ⌜ goodBlock block ≡ true ⌝ }
     ensures { λ r. ⌜ r ≡ reportAnswer block aggregate (now (b .entry)) cnvs seqs ⌝ }
 {
-    let check = zones::check_report(b, zones::block_sectors(block));
+    let check = report::check_report(b, zones::block_sectors(block));
     match check {
         ReportCheck::Good => fit_answer(b, aggregate, cnvs, seqs),
         ReportCheck::Bad(r) => MountAnswer::Refused(r),

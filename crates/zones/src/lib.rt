@@ -5,7 +5,7 @@ ghost use Prim.Native.Nat.{_+_, _*_, _≤_, _<_, _^_};
 ghost use lib.ListN.{length};
 ghost use Rattle.types.specs.Blocks.{blockSectors, bytesOf, wholeBlocks};
 ghost use Rattle.zones.specs.Zone.{zoneAt, conventional, sequential, conditionOf, isHealthy, healthy, writtenSize, goodLength, goodCapacity, goodEnd, goodType, conventionalCondition, sequentialCondition, goodCondition, pointed, pointsWell, goodPointer, goodRecord, goodZone};
-ghost use Rattle.zones.specs.Report.{headerBytes, zoneBytes, zoneCount, capacityGiven, goodHeader, zoneOf, zonesOf, goodRun, reportCheck};
+ghost use Rattle.zones.specs.Report.{headerBytes, zoneBytes, zoneCount, capacityGiven, goodHeader, zoneOf};
 ghost use Rattle.zones.specs.Told.{Framed, Sound};
 use types::Condition;
 use types::Refusal;
@@ -286,42 +286,4 @@ pub fn zone_of(b: &[u8], i: usize) -> Zone
 {
     let given = capacity_given(b);
     zone_at(b, HEADER_BYTES + ZONE_BYTES * i, given)
-}
-
-// How many of the zones are good before the first that is not.
-fn good_zones(b: &[u8], unit: u64) -> usize
-    requires { ⌜ Framed (now b) × (0 < unit) ⌝ }
-    ensures { λ r. ⌜ r ≡ goodRun unit 0 (zonesOf (now (b .entry))) ⌝ }
-{
-    let count = zone_count(b);
-    let mut expected = 0;
-    let mut i = 0;
-    while i < count {
-        let z = zone_of(b, i);
-        if good_zone(z, expected, unit) {
-            expected = z.start + z.length;
-            i += 1;
-        } else {
-            return i;
-        }
-    }
-    i
-}
-
-// The checks of a report: its header and length, then each zone.
-pub fn check_report(b: &[u8], unit: u64) -> ReportCheck
-    requires { ⌜ 0 < unit ⌝ }
-    ensures { λ r. ⌜ r ≡ reportCheck unit (now (b .entry)) ⌝ }
-{
-    if good_header(b) {
-        let count = zone_count(b);
-        let good = good_zones(b, unit);
-        if good < count {
-            ReportCheck::Bad(Refusal::BadZone(good as u32))
-        } else {
-            ReportCheck::Good
-        }
-    } else {
-        ReportCheck::Bad(Refusal::BadReport)
-    }
 }

@@ -175,7 +175,7 @@ fn print_check(check: ReportCheck) {
 fn show_report(label: &[u8], b: &[u8]) {
     io::write_all(1, label);
     io::write_all(1, b": ");
-    print_check(zones::check_report(b, UNIT));
+    print_check(report::check_report(b, UNIT));
     io::write_all(1, b"\n");
 }
 

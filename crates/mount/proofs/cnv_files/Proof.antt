@@ -35,8 +35,8 @@ loop-holds c =
     let all = cnv-first (a .aggregate) (a .b .now) (r .result) (r .ensures) in
     (search needs, search needs, omega (arith, ap (λ s. s .capacity) (r .ensures)), c .before .before .before .pre .1, omega (arith, ap length all))
 
-zone-of-requires : tie.Need-zone-of-requires Inv-loop μ-loop
-zone-of-requires c κs = search needs
+read-zone-requires : tie.Need-read-zone-requires Inv-loop μ-loop
+read-zone-requires c κs = search needs
 
 run-ends-requires : tie.Need-run-ends-requires Inv-loop μ-loop
 run-ends-requires c κs = search needs
@@ -50,7 +50,7 @@ add-n c = search needs
 next-run-requires : tie.Need-next-run-requires Inv-loop μ-loop
 next-run-requires c κs =
     let l = c .before .before .before .before .loop in
-    let z = c .before .before .zone-of in
+    let z = c .before .before .read-zone in
     let s = sound-turn (c .before .before .before .before .before .before .before .before .args .b .now) (l .i) (z .result) (z .ensures) (omega arith) (l .inv .3) .0 in
     omega (arith, sound-small s)
 
@@ -64,7 +64,7 @@ loop-again : tie.Need-loop-again Inv-loop μ-loop
 loop-again c =
     let a = c .before .before .before .before .before .before .before .before .before .args in
     let l = c .before .before .before .before .before .loop in
-    let z = c .before .before .before .zone-of in
+    let z = c .before .before .before .read-zone in
     let e = c .before .before .run-ends in
     let n = c .next-run in
     let sound = sound-turn (a .b .now) (l .i) (z .result) (z .ensures) (omega arith) (l .inv .3) in
@@ -94,7 +94,7 @@ cnv-files-spec =
     zone-count-requires
     no-run-requires
     loop-holds
-    zone-of-requires
+    read-zone-requires
     run-ends-requires
     files-requires
     add-n

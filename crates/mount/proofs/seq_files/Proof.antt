@@ -26,8 +26,8 @@ loop-holds : tie.Need-loop-holds Inv-loop μ-loop
 unfolding fileZones
 loop-holds c = search needs
 
-zone-of-requires : tie.Need-zone-of-requires Inv-loop μ-loop
-zone-of-requires c κs = search needs
+read-zone-requires : tie.Need-read-zone-requires Inv-loop μ-loop
+read-zone-requires c κs = search needs
 
 is-sequential-requires : tie.Need-is-sequential-requires Inv-loop μ-loop
 is-sequential-requires c κs = search needs
@@ -46,7 +46,7 @@ loop-less c = search needs
 
 loop-again : tie.Need-loop-again Inv-loop μ-loop
 loop-again c =
-    let z = c .before .before .zone-of in
+    let z = c .before .before .read-zone in
     let y = sequential (z .result) in
     let one : c .files .result ≡ cond y 1 0 = c .files .ensures .0 ∙ ap (λ x. cond {A = ℕ} x 1 0) (c .before .is-sequential .ensures) in
     let rows = seq-turn (c .before .before .before .before .before .before .before .args .b .now) (c .before .before .before .before .loop .i) (z .result) (z .ensures) (omega arith) in
@@ -65,7 +65,7 @@ seq-files-spec =
     μ-loop
     zone-count-requires
     loop-holds
-    zone-of-requires
+    read-zone-requires
     is-sequential-requires
     files-requires
     add-n

@@ -46,8 +46,8 @@ loop-holds c =
       ap (fillFrom (a .t .now) 0) all,
     )
 
-zone-of-requires : tie.Need-zone-of-requires Inv-loop μ-loop
-zone-of-requires c κs = search needs
+read-zone-requires : tie.Need-read-zone-requires Inv-loop μ-loop
+read-zone-requires c κs = search needs
 
 run-ends-requires : tie.Need-run-ends-requires Inv-loop μ-loop
 run-ends-requires c κs = search needs
@@ -59,7 +59,7 @@ put-if-requires : tie.Need-put-if-requires Inv-loop μ-loop
 put-if-requires c κs =
     let a = c .before .before .before .before .before .before .before .before .before .before .args in
     let l = c .before .before .before .before .before .loop in
-    let z = c .before .before .before .zone-of in
+    let z = c .before .before .before .read-zone in
     let e = c .before .run-ends in
     let r = c .row-of-run in
     let rows = cnv-turn (a .aggregate) (a .b .now) (l .i) (z .result) (l .run) _ (e .result) (r .result) (z .ensures) (omega arith) (e .ensures) refl (r .ensures) in
@@ -69,7 +69,7 @@ next-run-requires : tie.Need-next-run-requires Inv-loop μ-loop
 next-run-requires c κs =
     let b = c .before .before .before .before .before .before .before .before .before .before .before .before .before .args .b .now in
     let l = c .before .before .before .before .before .before .before .before .loop in
-    let z = c .before .before .before .before .before .before .zone-of in
+    let z = c .before .before .before .before .before .before .read-zone in
     let inside : l .i < zoneCount b = omega (arith, c .before .before .before .before .before .before .before .loop-test .taken, c .before .before .before .before .before .before .before .before .before .before .zone-count .ensures) in
     let s = sound-turn b (l .i) (z .result) (z .ensures) inside (l .inv .3) .0 in
     omega (arith, sound-small s, l .inv .2, c .before .before .before .before .before .before .before .before .before .before .before .before .before .pre .0 .few)
@@ -84,7 +84,7 @@ loop-again : tie.Need-loop-again Inv-loop μ-loop
 loop-again c =
     let a = c .before .before .before .before .before .before .before .before .before .before .before .before .before .before .args in
     let l = c .before .before .before .before .before .before .before .before .before .loop in
-    let z = c .before .before .before .before .before .before .before .zone-of in
+    let z = c .before .before .before .before .before .before .before .read-zone in
     let e = c .before .before .before .before .before .run-ends in
     let r = c .before .before .before .before .row-of-run in
     let p = c .before .before .before .put-if in
@@ -137,7 +137,7 @@ write-cnv-spec =
     zone-count-requires
     no-run-requires
     loop-holds
-    zone-of-requires
+    read-zone-requires
     run-ends-requires
     row-of-run-requires
     put-if-requires

@@ -32,14 +32,14 @@ loop-holds : tie.Need-loop-holds Inv-loop μ-loop
 unfolding fileZones
 loop-holds c = search needs
 
-zone-of-requires : tie.Need-zone-of-requires Inv-loop μ-loop
-zone-of-requires c κs = search needs
+read-zone-requires : tie.Need-read-zone-requires Inv-loop μ-loop
+read-zone-requires c κs = search needs
 
 put-seq-requires : tie.Need-put-seq-requires Inv-loop μ-loop
 put-seq-requires c κs =
     let b = c .before .before .before .before .before .before .before .args .b .now in
     let l = c .before .before .before .loop in
-    let z = c .before .zone-of in
+    let z = c .before .read-zone in
     let rows = seq-turn b (l .i) (z .result) (z .ensures) (omega arith) in
     (sound-turn b (l .i) (z .result) (z .ensures) (omega arith) (l .inv .2) .0, omega (arith, turn-count _ _ (sequential (z .result)) _ rows))
 
@@ -53,7 +53,7 @@ loop-again : tie.Need-loop-again Inv-loop μ-loop
 loop-again c =
     let b = c .before .before .before .before .before .before .before .before .before .before .args .b .now in
     let l = c .before .before .before .before .before .before .loop in
-    let z = c .before .before .before .before .zone-of in
+    let z = c .before .before .before .before .read-zone in
     let p = c .before .before .put-seq in
     let y = sequential (z .result) in
     let rows = seq-turn b (l .i) (z .result) (z .ensures) (omega arith) in (
@@ -82,7 +82,7 @@ write-seq-spec =
     μ-loop
     zone-count-requires
     loop-holds
-    zone-of-requires
+    read-zone-requires
     put-seq-requires
     add-i
     loop-less

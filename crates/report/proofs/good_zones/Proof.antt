@@ -1,18 +1,18 @@
 use Rattle.zones.proofs.Laws.{zone-sound, run-good, run-bad, run-end}
 use Rattle.zones.specs.Report.{zonesOf, goodRun}
 use native.Mathlib.Omega.{arith}
 use mathlib.Core.Path.{_≡_, _∙_, sym}
 use Prim.Native.Nat.{_+_, _-_, _≤_}
 use lib.ListN.{drop}
 use borrow.Author.Needs.{needs}
-use Rattle.zones.proofs.good_zones.Statement.{statement}
-use Rattle.zones.proofs.good_zones.Tie as tie
+use Rattle.report.proofs.good_zones.Statement.{statement}
+use Rattle.report.proofs.good_zones.Tie as tie
 
 abbrev Inv-loop : tie.InvT-loop
-Inv-loop b unit count expected₀ i₀ expected i = (i ≤ count) × (i + goodRun unit expected (drop i (zonesOf b)) ≡ goodRun unit 0 (zonesOf b))
+Inv-loop report unit count expected₀ i₀ expected i = (i ≤ count) × (i + goodRun unit expected (drop i (zonesOf report)) ≡ goodRun unit 0 (zonesOf report))
 
 abbrev μ-loop : tie.MeasureT-loop
-μ-loop b unit count expected₀ i₀ expected i = count - i
+μ-loop report unit count expected₀ i₀ expected i = count - i
 
 zone-count-requires : tie.Need-zone-count-requires Inv-loop μ-loop
 zone-count-requires c κs = search needs
@@ -20,8 +20,8 @@ zone-count-requires c κs = search needs
 loop-holds : tie.Need-loop-holds Inv-loop μ-loop
 loop-holds c = search needs
 
-zone-of-requires : tie.Need-zone-of-requires Inv-loop μ-loop
-zone-of-requires c κs = search needs
+read-zone-requires : tie.Need-read-zone-requires Inv-loop μ-loop
+read-zone-requires c κs = search needs
 
 good-zone-requires : tie.Need-good-zone-requires Inv-loop μ-loop
 good-zone-requires c κs = search needs
@@ -29,7 +29,7 @@ good-zone-requires c κs = search needs
 add-expected : tie.Need-add-expected Inv-loop μ-loop
 add-expected c =
     let good = sym (c .before .before .good-zone .ensures) ∙ c .before .if1 .taken in
-    let s = zone-sound (c .before .before .before .before .before .before .before .before .args .unit) (c .before .before .before .before .before .loop .expected) (c .before .before .before .zone-of .result) good in
+    let s = zone-sound (c .before .before .before .before .before .before .before .before .args .unit) (c .before .before .before .before .before .loop .expected) (c .before .before .before .read-zone .result) good in
     omega arith
 
 add-i : tie.Need-add-i Inv-loop μ-loop
@@ -42,23 +42,23 @@ loop-again : tie.Need-loop-again Inv-loop μ-loop
 loop-again c =
     let a = c .before .before .before .before .before .before .before .before .args in
     let l = c .before .before .before .before .before .loop in
-    let z = c .before .before .before .zone-of in
+    let z = c .before .before .before .read-zone in
     let good = sym (c .before .before .good-zone .ensures) ∙ c .before .if1 .taken in
-    (search needs, omega (arith, run-good (a .unit) (l .expected) (a .b .now) (l .i) (z .result) (z .ensures) (omega arith) good))
+    (search needs, omega (arith, run-good (a .unit) (l .expected) (a .report .now) (l .i) (z .result) (z .ensures) (omega arith) good))
 
 returns : tie.Need-returns Inv-loop μ-loop
 returns c =
     let a = c .before .before .before .before .before .before .before .args in
     let l = c .before .before .before .before .loop in
-    let z = c .before .before .zone-of in
+    let z = c .before .before .read-zone in
     let bad = sym (c .before .good-zone .ensures) ∙ c .if1 .left in
-    omega (arith, run-bad (a .unit) (l .expected) (a .b .now) (l .i) (z .result) (z .ensures) (omega arith) bad)
+    omega (arith, run-bad (a .unit) (l .expected) (a .report .now) (l .i) (z .result) (z .ensures) (omega arith) bad)
 
 returns-2 : tie.Need-returns-2 Inv-loop μ-loop
 returns-2 c =
     let a = c .before .before .before .before .args in
     let l = c .before .loop in
-    omega (arith, run-end (a .unit) (l .expected) (a .b .now) (l .i) (omega arith))
+    omega (arith, run-end (a .unit) (l .expected) (a .report .now) (l .i) (omega arith))
 
 pub good-zones-spec : {M : Type 1} → statement M
 good-zones-spec =
@@ -68,7 +68,7 @@ good-zones-spec =
     μ-loop
     zone-count-requires
     loop-holds
-    zone-of-requires
+    read-zone-requires
     good-zone-requires
     add-expected
     add-i
