@@ -1,4 +1,4 @@
--- The reader's type at a function's lifetime, as every walk over a reader has it, and what a reader is asked to have a next zone.
+-- The reader's type at a function's lifetime, as every walk over a reader has it, and what is asked of a reader to have a next zone.
 -- Assumes nothing.
 use Prim.Native.Nat.{_<_}
 use contract.Lifetimes.{Lfts}
@@ -16,7 +16,7 @@ use Rattle.report.proofs.Reader.Laws as T′
 abbrev pub Ready : Reader → Type 0
 Ready r = Framed (now (r .report)) × (r .next < zoneCount (now (r .report)))
 
--- the row, the declared type, its laws, and that it is Copy
+-- the row, the declared type, and its laws
 abbrev pub Row : Lfts 1 → RattleType
 Row κs = T.the-row (namedLft 1 0 tt κs)
 
