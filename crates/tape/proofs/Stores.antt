@@ -1,0 +1,49 @@
+-- Text put after text is one text put, and the length of a number's digits.
+-- Assumes nothing.
+use mathlib.Core.Path.{_≡_, refl, ap, _∙_, sym}
+use mathlib.Core.List.{List, [], _∷_, _++_}
+use mathlib.Core.Bool.{Bool, true, false, cond}
+use Prim.Native.Nat.{ℕ, zero, suc, _+_, _-_, _*_, _/_, _%_, _^_, _≤_, _<_}
+use native.Mathlib.Nat.{add-zero, add-suc, suc-add, pow-suc}
+use native.Mathlib.Omega.{arith}
+use native.Mathlib.Numerals.{add-one}
+use lib.ListN.{length, length-append}
+use lib.Seq.{sets}
+use borrow.Author.Tests.{lt-ltb, le-ltb}
+use Rattle.tape.specs.Text.{decimalBy, Put}
+
+pub sets-append : (xs ys l : List ℕ) (i : ℕ) → sets (sets l i xs) (i + length xs) ys ≡ sets l i (xs ++ ys)
+sets-append [] ys l i = ap (λ (j : ℕ). sets l j ys) (add-zero i)
+sets-append (x ∷ xs) ys l i =
+    ap (λ (j : ℕ). sets (sets l i (x ∷ xs)) j ys) (add-suc i (length xs) ∙ sym (suc-add i (length xs)))
+    ∙ sets-append xs ys _ (suc i)
+
+-- a text, and another after it
+pub then : {a b c x y : List ℕ} {i j k : ℕ} → Put a b i j x → Put b c j k y → Put a c i k (x ++ y)
+then {a} {b} {c} {x} {y} {i} {j} {k} p q = record {
+  bytes = q .bytes ∙ ap (λ (n : ℕ). sets b n y) (p .place) ∙ ap (λ (l : List ℕ). sets l (i + length x) y) (p .bytes) ∙ sets-append x y a i;
+  place = omega (arith, p .place, q .place, length-append x y);
+}
+
+-- a number below ten
+pub decimal-small : (k n : ℕ) → 0 < k → n < 10 → decimalBy k n ≡ (48 + n) ∷ []
+unfolding decimalBy
+decimal-small zero n k h = absurd (omega arith)
+decimal-small (suc k) n p h = rw (lt-ltb n 10 h)
+
+-- and one that is not: its last digit stands after the others
+pub decimal-more : (k n : ℕ) → 0 < k → 10 ≤ n → decimalBy k n ≡ decimalBy (k - 1) (n / 10) ++ ((48 + n % 10) ∷ [])
+unfolding decimalBy
+decimal-more zero n k h = absurd (omega arith)
+decimal-more (suc k) n p h = let e : suc k - 1 ≡ k = omega arith in rw (le-ltb n 10 h, e)
+
+-- the number without its last digit has a digit less
+pub shorter : (k n : ℕ) → 0 < k → n < 10 ^ k → n / 10 < 10 ^ (k - 1)
+shorter zero n p h = absurd (omega arith)
+shorter (suc k) n p h = let e : suc k - 1 ≡ k = omega arith in rw e (omega (arith, pow-suc 10 k))
+
+-- so it has a digit at all
+pub some-left : (k n : ℕ) → n < 10 ^ k → 10 ≤ n → 1 < k
+some-left zero n h g = absurd (omega arith)
+some-left (suc zero) n h g = absurd (omega arith)
+some-left (suc (suc k)) n h g = omega arith

@@ -1,0 +1,30 @@
+-- The text of a line: numbers in decimal, each after a space.
+use Prim.Native.Nat.{ℕ, zero, suc, _+_, _/_, _%_}
+use mathlib.Core.List.{List, [], _∷_, _++_}
+use mathlib.Core.Bool.{cond}
+use mathlib.Core.Path.{_≡_}
+use lib.Dec.{ltb}
+use lib.ListN.{length}
+use lib.Seq.{sets}
+
+-- the decimal digits of n in ASCII, of which there are at most k
+unfoldable pub decimalBy : ℕ → ℕ → List ℕ
+decimalBy zero n = []
+decimalBy (suc k) n = cond (ltb n 10) ((48 + n) ∷ []) (decimalBy k (n / 10) ++ ((48 + n % 10) ∷ []))
+
+-- no number of 64 bits has more than twenty digits
+abbrev pub decimal : ℕ → List ℕ
+decimal n = decimalBy 20 n
+
+-- a space and a number
+abbrev pub field : ℕ → List ℕ
+field n = 32 ∷ decimal n
+
+abbrev pub fields : List ℕ → List ℕ
+fields [] = []
+fields (n ∷ ns) = field n ++ fields ns
+
+-- a text put into lent bytes at a place: what they hold then, and the place after it
+pub record Put (before after : List ℕ) (at next : ℕ) (text : List ℕ) : Type 0 where
+  pub bytes : after ≡ sets before at text
+  pub place : next ≡ at + length text

@@ -1,0 +1,2 @@
+// A tape: its records, and the lines that they print.
+mod text;
