@@ -1,0 +1,43 @@
+use Prim.Native.Nat.{_+_}
+use native.Mathlib.Omega.{arith}
+use borrow.Author.Needs.{needs}
+use Rattle.wire.proofs.Laws.{le-add, le-one}
+use Rattle.wire.proofs.u16_at.Statement.{statement}
+use Rattle.wire.proofs.u16_at.Tie as tie
+
+u8-at-requires : tie.Need-u8-at-requires
+u8-at-requires c κs = search needs
+
+add-u8-at : tie.Need-add-u8-at
+add-u8-at c = search needs
+
+u8-at-requires-2 : tie.Need-u8-at-requires-2
+u8-at-requires-2 c κs = search needs
+
+cast-result : tie.Need-cast-result
+cast-result c = search needs
+
+cast-result-2 : tie.Need-cast-result-2
+cast-result-2 c = search needs
+
+mul-result : tie.Need-mul-result
+mul-result c = search needs
+
+add-result : tie.Need-add-result
+add-result c = search needs
+
+returns : tie.Need-returns
+returns c = let a = c .before .before .before .args in omega (arith, le-add 1 1 (a .b .now) (a .at), le-one (a .b .now) (a .at), le-one (a .b .now) (a .at + 1))
+
+pub u16-at-spec : {M : Type 1} → statement M
+u16-at-spec =
+    tie.close
+    (tie.spec
+    u8-at-requires
+    add-u8-at
+    u8-at-requires-2
+    cast-result
+    cast-result-2
+    mul-result
+    add-result
+    returns)
