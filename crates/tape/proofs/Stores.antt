@@ -10,7 +10,8 @@ use native.Mathlib.Numerals.{add-one}
 use lib.ListN.{length, length-append}
 use lib.Seq.{sets}
 use borrow.Author.Tests.{lt-ltb, le-ltb}
-use Rattle.tape.specs.Text.{decimalBy, Put}
+use Rattle.tape.specs.Text.{decimalBy}
+use Rattle.tape.specs.Put.{Put}
 
 pub sets-append : (xs ys l : List ℕ) (i : ℕ) → sets (sets l i xs) (i + length xs) ys ≡ sets l i (xs ++ ys)
 sets-append [] ys l i = ap (λ (j : ℕ). sets l j ys) (add-zero i)
@@ -47,3 +48,7 @@ pub some-left : (k n : ℕ) → n < 10 ^ k → 10 ≤ n → 1 < k
 some-left zero n h g = absurd (omega arith)
 some-left (suc zero) n h g = absurd (omega arith)
 some-left (suc (suc k)) n h g = omega arith
+
+-- no text
+pub nothing : (a : List ℕ) (i : ℕ) → Put a a i i []
+nothing a i = record { bytes = refl; place = sym (add-zero i) }

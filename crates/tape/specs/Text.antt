@@ -2,10 +2,7 @@
 use Prim.Native.Nat.{ℕ, zero, suc, _+_, _/_, _%_}
 use mathlib.Core.List.{List, [], _∷_, _++_}
 use mathlib.Core.Bool.{cond}
-use mathlib.Core.Path.{_≡_}
 use lib.Dec.{ltb}
-use lib.ListN.{length}
-use lib.Seq.{sets}
 
 -- the decimal digits of n in ASCII, of which there are at most k
 unfoldable pub decimalBy : ℕ → ℕ → List ℕ
@@ -23,8 +20,3 @@ field n = 32 ∷ decimal n
 abbrev pub fields : List ℕ → List ℕ
 fields [] = []
 fields (n ∷ ns) = field n ++ fields ns
-
--- a text put into lent bytes at a place: what they hold then, and the place after it
-pub record Put (before after : List ℕ) (at next : ℕ) (text : List ℕ) : Type 0 where
-  pub bytes : after ≡ sets before at text
-  pub place : next ≡ at + length text

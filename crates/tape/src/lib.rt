@@ -1,2 +1,3 @@
 // A tape: its records, and the lines that they print.
+mod lines;
 mod text;

@@ -3,7 +3,8 @@ ghost use mathlib.Core.Path.{_≡_};
 ghost use mathlib.Core.List.{[], _∷_};
 ghost use Prim.Native.Nat.{_+_, _≤_, _<_, _^_};
 ghost use lib.ListN.{length};
-ghost use Rattle.tape.specs.Text.{decimal, decimalBy, field, Put};
+ghost use Rattle.tape.specs.Text.{decimal, decimalBy, field};
+ghost use Rattle.tape.specs.Put.{Put};
 
 // One byte.
 pub fn put_byte(out: &mut [u8], at: usize, b: u8) -> usize
