@@ -1,3 +1,5 @@
 pub mod Lines
 pub mod Put
+pub mod Records
 pub mod Text
+pub mod Told

@@ -1,0 +1,14 @@
+-- What functions tell those that call them. No outcome is defined here.
+use Prim.Native.Nat.{ℕ, _+_, _≤_}
+use mathlib.Core.List.{List}
+use lib.ListN.{length}
+use Rattle.tape.specs.declared.records.Record.{Record}
+use Rattle.tape.specs.declared.records.Record.the-variants.{OnFile, Good, Failed, Broken}
+use Rattle.tape.specs.Records.{callBytes, goodBytes, failedBytes}
+
+-- the bytes of a record stand at its place
+abbrev pub Stands : Record → List ℕ → ℕ → Type 0
+Stands (OnFile kind number x) b at = at + callBytes ≤ length b
+Stands Good b at = at + goodBytes ≤ length b
+Stands Failed b at = at + failedBytes ≤ length b
+Stands Broken b at = Unit
