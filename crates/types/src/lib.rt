@@ -1,6 +1,7 @@
 // The values that every layer speaks of: files and their rows, commands, the mount, refusals and answers.
 ghost use mathlib.Core.Path.{_≡_};
 ghost use Prim.Native.Nat.{_<_};
+ghost use Rattle.types.specs.Blocks.{goodBlock};
 ghost use Rattle.types.specs.Codes.{kindCode, conditionCode, accessCode, policyCode, commandCode};
 ghost use Rattle.types.specs.Numbers.{refusalNumber, answerNumber, mountNumber, findNumber, showNumber};
 ghost use Rattle.types.specs.Mounts.{emptyMount, holding, cleared, readOnly};
@@ -157,6 +158,12 @@ pub struct Outcome {
 pub struct MountOutcome {
     pub answer: MountAnswer,
     pub mount: Mount,
+}
+
+pub fn good_block(block: u64) -> bool
+    ensures { λ r. ⌜ r ≡ goodBlock block ⌝ }
+{
+    (block == 512) | (block == 4096)
 }
 
 pub fn kind_code(k: FileKind) -> u64

@@ -1,0 +1,130 @@
+-- The checks that all calls share: "Calls check in the order 10 (counts), 1, 10 (row), 2, then as below; finding a name or showing a row
+-- stops before 2."
+use Prim.Native.Nat.{ℕ, _+_, _/_, _^_}
+use mathlib.Core.List.{List}
+use mathlib.Core.Bool.{Bool, true, false, cond, not, _&&_, _||_}
+use lib.ListN.{length}
+use lib.Dec.{eqb, leb, ltb}
+use Rattle.types.specs.declared.Volume.{Volume}
+use Rattle.types.specs.declared.Row.{Row}
+use Rattle.types.specs.declared.FileKind.{FileKind}
+use Rattle.types.specs.declared.FileKind.the-variants.{Conventional, Sequential}
+use Rattle.types.specs.declared.Condition.{Condition}
+use Rattle.types.specs.declared.Condition.the-variants as condition
+use Rattle.types.specs.declared.Access.{Access}
+use Rattle.types.specs.declared.Access.the-variants as access
+use Rattle.types.specs.declared.Refusal.{Refusal}
+use Rattle.types.specs.declared.Refusal.the-variants as refusal
+use Rattle.types.specs.declared.Outstanding.{Outstanding}
+use Rattle.types.specs.declared.Outstanding.the-variants.{Idle, Busy}
+use Rattle.types.specs.Blocks.{sectorBytes, blockSectors, goodBlock, onBlock, wholeBlocks}
+use Rattle.table.specs.declared.Slot.{Slot}
+use Rattle.table.specs.declared.Slot.the-variants as slot
+use Rattle.table.specs.Rows.{rowsLent, rowAt}
+use Rattle.calls.specs.declared.Lookup.{Lookup}
+use Rattle.calls.specs.declared.Lookup.the-variants.{Found, Nothing}
+use Rattle.calls.specs.declared.Checked.{Checked}
+use Rattle.calls.specs.declared.Checked.the-variants.{Good, Refused}
+
+-- ---- 10 (counts): "more files of either kind than rows lent or than 1,022, a wrong block"
+
+-- the most files of a kind
+abbrev pub mostFiles : ℕ
+mostFiles = 1022
+
+abbrev pub filesFit : ℕ → ℕ → Bool
+filesFit files words = leb files (rowsLent words) && leb files mostFiles
+
+-- of a mount, and the words of its conventional and of its sequential table
+unfoldable pub countsFit : Volume → ℕ → ℕ → Bool
+countsFit v cnv seq = filesFit (v .conventional) cnv && filesFit (v .sequential) seq && goodBlock (v .block)
+
+-- ---- 1: "no such file"
+
+-- of two things, that of the conventional and that of the sequential files
+abbrev pub ofKind : {A : Type 0} → FileKind → A → A → A
+ofKind Conventional cnv seq = cnv
+ofKind Sequential cnv seq = seq
+
+abbrev pub filesOf : FileKind → Volume → ℕ
+filesOf k v = ofKind k (v .conventional) (v .sequential)
+
+-- the file of number i among a table's files
+abbrev pub rowIn : List ℕ → ℕ → ℕ → Lookup
+rowIn table files i = cond (ltb i files) (Found (rowAt table i)) Nothing
+
+unfoldable pub lookupOf : Volume → List ℕ → List ℕ → FileKind → ℕ → Lookup
+lookupOf v cnv seq k i = rowIn (ofKind k cnv seq) (filesOf k v) i
+
+-- ---- 10 (row): "a named row that breaks these"
+
+-- "a means b"
+abbrev pub means : Bool → Bool → Bool
+means a b = not a || b
+
+abbrev pub isConventional : FileKind → Bool
+isConventional Conventional = true
+isConventional Sequential = false
+
+abbrev pub isReadOnly : Condition → Bool
+isReadOnly condition.Healthy = false
+isReadOnly condition.ReadOnly = true
+isReadOnly condition.Offline = false
+
+abbrev pub isOffline : Condition → Bool
+isOffline condition.Healthy = false
+isOffline condition.ReadOnly = false
+isOffline condition.Offline = true
+
+abbrev pub isNone : Access → Bool
+isNone access.Nothing = true
+isNone access.Read = false
+isNone access.Write = false
+
+abbrev pub isWrite : Access → Bool
+isWrite access.Nothing = false
+isWrite access.Read = false
+isWrite access.Write = true
+
+-- "start and capacity nonzero block multiples, start + capacity ≤ 2^40 sectors"
+abbrev pub placed : ℕ → ℕ → ℕ → Bool
+placed block start capacity =
+    wholeBlocks (blockSectors block) start && wholeBlocks block capacity && leb (start + capacity / sectorBytes) (2 ^ 40)
+
+-- "size a block multiple ≤ capacity"
+abbrev pub sized : ℕ → ℕ → ℕ → Bool
+sized block capacity size = onBlock block size && leb size capacity
+
+-- "offline means access none, access none means size 0, read-only means access not write"
+abbrev pub allowed : Condition → Access → ℕ → Bool
+allowed c a size = means (isOffline c) (isNone a) && means (isNone a) (eqb size 0) && means (isReadOnly c) (not (isWrite a))
+
+-- "a cnv row whose access isn't none is full-size"
+abbrev pub full : FileKind → Access → ℕ → ℕ → Bool
+full k a size capacity = means (isConventional k && not (isNone a)) (eqb size capacity)
+
+unfoldable pub soundRow : ℕ → FileKind → Row → Bool
+soundRow block k r =
+    placed block (r .start) (r .capacity) && sized block (r .capacity) (r .size)
+    && allowed (r .condition) (r .access) (r .size) && full k (r .access) (r .size) (r .capacity)
+
+abbrev pub soundSlot : ℕ → FileKind → Slot → Checked
+soundSlot block k (slot.Good r) = cond (soundRow block k r) (Good r) (Refused refusal.Impossible)
+soundSlot block k slot.Impossible = Refused refusal.Impossible
+
+-- ---- in order
+
+-- 1, then 10 (row)
+abbrev pub foundRow : ℕ → FileKind → Lookup → Checked
+foundRow block k (Found x) = soundSlot block k x
+foundRow block k Nothing = Refused refusal.NoFile
+
+-- 10 (counts), 1, 10 (row): the row of file i of a kind, or the refusal
+unfoldable pub fileOf : Volume → List ℕ → List ℕ → FileKind → ℕ → Checked
+fileOf v cnv seq k i =
+    cond (countsFit v (length cnv) (length seq)) (foundRow (v .block) k (lookupOf v cnv seq k i)) (Refused refusal.Impossible)
+
+-- 2: "a command is outstanding"
+abbrev pub isBusy : Outstanding → Bool
+isBusy Idle = false
+isBusy (Busy h) = true

@@ -1,0 +1,5 @@
+pub mod Calls
+pub mod Checks
+pub mod Names
+pub mod Show
+pub mod Told

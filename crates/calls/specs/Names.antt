@@ -1,0 +1,79 @@
+-- Names: "Names are `cnv/` or `seq/` and a decimal without a leading zero: `seq/07` and `seq/1 ` match nothing."
+use Prim.Native.Nat.{ℕ, zero, suc, _+_, _/_, _%_, _<_}
+use mathlib.Core.Path.{_≡_}
+use mathlib.Core.List.{List, [], _∷_, _++_}
+use mathlib.Core.Bool.{Bool, true, false, cond, _&&_}
+use lib.ListN.{length}
+use lib.Dec.{ltb, eqb}
+use Rattle.types.specs.declared.Volume.{Volume}
+use Rattle.types.specs.declared.FileKind.{FileKind}
+use Rattle.types.specs.declared.FileKind.the-variants.{Conventional, Sequential}
+use Rattle.types.specs.declared.Refusal.the-variants as refusal
+use Rattle.types.specs.declared.FindAnswer.{FindAnswer}
+use Rattle.types.specs.declared.FindAnswer.the-variants as find
+use Rattle.calls.specs.declared.Name.{Name}
+use Rattle.calls.specs.declared.Name.the-variants.{Found, Nothing}
+use Rattle.calls.specs.declared.Checked.{Checked}
+use Rattle.calls.specs.declared.Checked.the-variants as checked
+use Rattle.calls.specs.Checks.{mostFiles, countsFit, fileOf}
+
+-- the bytes `cnv/` and `seq/`
+abbrev pub prefixOf : FileKind → List ℕ
+prefixOf Conventional = 99 ∷ 110 ∷ 118 ∷ 47 ∷ []
+prefixOf Sequential = 115 ∷ 101 ∷ 113 ∷ 47 ∷ []
+
+-- the byte of a digit: `0` is 48
+abbrev pub digitByte : ℕ → ℕ
+digitByte d = 48 + d
+
+-- a number's digits, at most so many, the highest first: those of a tenth of it, and the last
+unfoldable pub digitsOf : ℕ → ℕ → List ℕ
+digitsOf zero n = []
+digitsOf (suc most) n = cond (ltb n 10) (digitByte n ∷ []) (digitsOf most (n / 10) ++ digitByte (n % 10) ∷ [])
+
+-- "a decimal without a leading zero": it has no more digits than one more than the number
+abbrev pub decimal : ℕ → List ℕ
+decimal n = digitsOf (suc n) n
+
+-- the name of file n of a kind
+unfoldable pub nameOf : FileKind → ℕ → List ℕ
+nameOf k n = prefixOf k ++ decimal n
+
+-- the same bytes
+abbrev pub sameBytes : List ℕ → List ℕ → Bool
+sameBytes [] [] = true
+sameBytes [] (y ∷ ys) = false
+sameBytes (x ∷ xs) [] = false
+sameBytes (x ∷ xs) (y ∷ ys) = eqb x y && sameBytes xs ys
+
+-- the file of a kind, among so many, whose name it is
+unfoldable pub fileNamed : FileKind → ℕ → List ℕ → Name
+fileNamed k zero name = Nothing
+fileNamed k (suc n) name = cond (sameBytes name (nameOf k n)) (Found k n) (fileNamed k n name)
+
+abbrev pub orElse : Name → Name → Name
+orElse (Found k n) other = Found k n
+orElse Nothing other = other
+
+-- the file of a mount whose name it is
+unfoldable pub named : Volume → List ℕ → Name
+named v name = orElse (fileNamed Conventional (v .conventional) name) (fileNamed Sequential (v .sequential) name)
+
+abbrev pub foundFile : FileKind → ℕ → Checked → FindAnswer
+foundFile k n (checked.Good r) = find.Found k n
+foundFile k n (checked.Refused x) = find.Refused x
+
+-- 1: "no such .. name"; then as of the file
+abbrev pub foundName : Volume → List ℕ → List ℕ → Name → FindAnswer
+foundName v cnv seq (Found k n) = foundFile k n (fileOf v cnv seq k n)
+foundName v cnv seq Nothing = find.Refused refusal.NoFile
+
+-- 10 (counts), 1, 10 (row), "stops before 2"
+abbrev pub findOf : Volume → List ℕ → List ℕ → List ℕ → FindAnswer
+findOf v cnv seq name =
+    cond (countsFit v (length cnv) (length seq)) (foundName v cnv seq (named v name)) (find.Refused refusal.Impossible)
+
+-- what the reading of a name tells: the file that it names, or that it is the name of no file that any mount has
+abbrev pub NameTells : List ℕ → Name → Type 0
+NameTells name (Found k n) = name ≡ nameOf k n
+NameTells name Nothing = (k : FileKind) (n : ℕ) → n < mostFiles → name ≡ nameOf k n → ⊥

@@ -1,0 +1,182 @@
+// The calls on a mounted volume: finding a name, showing a file, read, write, truncate and flush. None of them changes a table.
+pub mod checks; // the checks that all calls share
+pub mod names; // what a name says
+pub mod rows; // what each call answers on its row
+
+ghost use mathlib.Core.Path.{_≡_};
+ghost use Prim.Native.Nat.{_≤_};
+ghost use Rattle.types.specs.declared.Call.{Call};
+ghost use Rattle.types.specs.Blocks.{sectorBytes};
+ghost use Rattle.calls.specs.Checks.{soundSlot, isBusy};
+ghost use Rattle.calls.specs.Calls.{onFile, settled, outcomeOf, refusedWith};
+ghost use Rattle.calls.specs.Told.{Ends};
+use table::Slot;
+use types::Answer;
+use types::Call;
+use types::FileKind;
+use types::Held;
+use types::Mount;
+use types::Outcome;
+use types::Outstanding;
+use types::Refusal;
+use types::Row;
+
+// What a lookup finds: a file's row as its words say, or that there is no such file.
+pub enum Lookup {
+    Found(Slot),
+    Nothing,
+}
+
+// A row that a call may go on with, or the refusal.
+pub enum Checked {
+    Good(Row),
+    Refused(Refusal),
+}
+
+// What a name says: a file, or nothing.
+pub enum Name {
+    Found(FileKind, u32),
+    Nothing,
+}
+
+fn is_busy(o: Outstanding) -> bool
+    ensures { λ r. ⌜ r ≡ isBusy o ⌝ }
+{
+    match o {
+        Outstanding::Idle => false,
+        Outstanding::Busy(_) => true,
+    }
+}
+
+// Check 2, and then the call on its row.
+fn on_file(m: Mount, kind: FileKind, file: Checked, x: Call) -> Answer
+    requires { ⌜ (sectorBytes ≤ m .volume .block) × Ends file ⌝ }
+    ensures { λ r. ⌜ r ≡ onFile m kind file x ⌝ }
+{
+    match file {
+        Checked::Good(row) => {
+            let o = m.outstanding;
+            if is_busy(o) {
+                Answer::Refused(Refusal::Busy)
+            } else {
+                rows::answer_of(m, kind, row, x)
+            }
+        }
+        Checked::Refused(y) => Answer::Refused(y),
+    }
+}
+
+// The mount after an answer: an issued command is outstanding.
+fn settle(m: Mount, kind: FileKind, number: u32, answer: Answer) -> Outcome
+    ensures { λ r. ⌜ r ≡ settled m kind number answer ⌝ }
+{
+    match answer {
+        Answer::Issue(command) => Outcome {
+            answer,
+            mount: types::with_held(
+                m,
+                Held {
+                    kind,
+                    number,
+                    command,
+                },
+            ),
+        },
+        Answer::Done(_) => Outcome { answer, mount: m },
+        Answer::Refused(_) => Outcome { answer, mount: m },
+    }
+}
+
+fn refused(m: Mount, x: Refusal) -> Outcome
+    ensures { λ r. ⌜ r ≡ refusedWith m x ⌝ }
+{
+    Outcome {
+        answer: Answer::Refused(x),
+        mount: m,
+    }
+}
+
+// A call on a file that was found: checks 10 (row) and 2, and then as its row says.
+fn call_on(m: Mount, kind: FileKind, number: u32, slot: Slot, x: Call) -> Outcome
+    requires { ⌜ sectorBytes ≤ m .volume .block ⌝ }
+    ensures { λ r. ⌜ r ≡ settled m kind number (onFile m kind (soundSlot (m .volume .block) kind slot) x) ⌝ }
+{
+    let v = m.volume;
+    let file = checks::sound_slot(v.block, kind, slot);
+    settle(m, kind, number, on_file(m, kind, file, x))
+}
+
+pub fn read(
+    m: Mount,
+    cnv: &[u64],
+    seq: &[u64],
+    kind: FileKind,
+    number: u32,
+    offset: u64,
+    length: u64,
+) -> Outcome
+    ensures { λ r. ⌜ r ≡ outcomeOf m (now (cnv .entry)) (now (seq .entry)) kind number (Call.Read offset length) ⌝ }
+{
+    let v = m.volume;
+    if !checks::counts_fit(v, cnv.len(), seq.len()) {
+        return refused(m, Refusal::Impossible);
+    }
+    let Lookup::Found(slot) = checks::lookup(v, cnv, seq, kind, number) else {
+        return refused(m, Refusal::NoFile);
+    };
+    call_on(m, kind, number, slot, Call::Read(offset, length))
+}
+
+pub fn write(
+    m: Mount,
+    cnv: &[u64],
+    seq: &[u64],
+    kind: FileKind,
+    number: u32,
+    offset: u64,
+    length: u64,
+) -> Outcome
+    ensures { λ r. ⌜ r ≡ outcomeOf m (now (cnv .entry)) (now (seq .entry)) kind number (Call.Write offset length) ⌝ }
+{
+    let v = m.volume;
+    if !checks::counts_fit(v, cnv.len(), seq.len()) {
+        return refused(m, Refusal::Impossible);
+    }
+    let Lookup::Found(slot) = checks::lookup(v, cnv, seq, kind, number) else {
+        return refused(m, Refusal::NoFile);
+    };
+    call_on(m, kind, number, slot, Call::Write(offset, length))
+}
+
+pub fn truncate(
+    m: Mount,
+    cnv: &[u64],
+    seq: &[u64],
+    kind: FileKind,
+    number: u32,
+    target: u64,
+) -> Outcome
+    ensures { λ r. ⌜ r ≡ outcomeOf m (now (cnv .entry)) (now (seq .entry)) kind number (Call.Truncate target) ⌝ }
+{
+    let v = m.volume;
+    if !checks::counts_fit(v, cnv.len(), seq.len()) {
+        return refused(m, Refusal::Impossible);
+    }
+    let Lookup::Found(slot) = checks::lookup(v, cnv, seq, kind, number) else {
+        return refused(m, Refusal::NoFile);
+    };
+    call_on(m, kind, number, slot, Call::Truncate(target))
+}
+
+pub fn flush(m: Mount, cnv: &[u64], seq: &[u64], kind: FileKind, number: u32) -> Outcome
+    ensures { λ r. ⌜ r ≡ outcomeOf m (now (cnv .entry)) (now (seq .entry)) kind number Call.Flush ⌝ }
+{
+    let v = m.volume;
+    if !checks::counts_fit(v, cnv.len(), seq.len()) {
+        return refused(m, Refusal::Impossible);
+    }
+    let Lookup::Found(slot) = checks::lookup(v, cnv, seq, kind, number) else {
+        return refused(m, Refusal::NoFile);
+    };
+    call_on(m, kind, number, slot, Call::Flush)
+}

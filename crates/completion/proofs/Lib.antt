@@ -1,0 +1,2 @@
+pub mod Issuable
+pub mod Laws

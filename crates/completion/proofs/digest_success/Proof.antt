@@ -1,0 +1,26 @@
+use borrow.Author.Needs.{needs}
+use Rattle.completion.proofs.digest_success.Statement.{statement}
+use Rattle.completion.proofs.digest_success.Tie as tie
+
+enum-known-p : tie.Need-enum-known-p
+enum-known-p c = search needs
+
+succeed-requires : tie.Need-succeed-requires
+succeed-requires c κs = simp (c .before .p .given .1) at (c .before .before .before .pre)
+
+enum-known-p-2 : tie.Need-enum-known-p-2
+enum-known-p-2 c = search needs
+
+refuse-requires : tie.Need-refuse-requires
+refuse-requires c κs = search needs
+
+returns : tie.Need-returns
+returns c = simp (c .before .before .p .given .1, c .succeed .ensures)
+
+returns-2 : tie.Need-returns-2
+returns-2 c = simp (c .before .before .p2 .given .1, c .refuse .ensures)
+
+pub digest-success-spec : {M : Type 1} → statement M
+digest-success-spec =
+    tie.close
+    (tie.spec enum-known-p succeed-requires enum-known-p-2 refuse-requires returns returns-2)

@@ -1,0 +1,4 @@
+pub mod Completions
+pub mod Grid
+pub mod Held
+pub mod Told

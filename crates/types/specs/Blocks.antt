@@ -1,0 +1,28 @@
+-- Sectors and blocks: "sectors of 512 bytes", "Block: 512 or 4,096".
+use Prim.Native.Nat.{ℕ, _*_, _/_, _%_}
+use mathlib.Core.Bool.{Bool, _&&_, _||_}
+use lib.Dec.{ltb, eqb}
+
+-- "sectors of 512 bytes"
+abbrev pub sectorBytes : ℕ
+sectorBytes = 512
+
+-- the bytes of so many sectors
+abbrev pub bytesOf : ℕ → ℕ
+bytesOf sectors = sectors * sectorBytes
+
+-- the sectors of a block
+abbrev pub blockSectors : ℕ → ℕ
+blockSectors block = block / sectorBytes
+
+-- "Block: 512 or 4,096"
+abbrev pub goodBlock : ℕ → Bool
+goodBlock block = eqb block 512 || eqb block 4096
+
+-- "on a block", with the block in the number's own unit
+abbrev pub onBlock : ℕ → ℕ → Bool
+onBlock unit n = eqb (n % unit) 0
+
+-- "nonzero multiples of the block"
+abbrev pub wholeBlocks : ℕ → ℕ → Bool
+wholeBlocks unit n = ltb 0 n && onBlock unit n
