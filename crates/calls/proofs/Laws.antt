@@ -7,7 +7,7 @@ use mathlib.Core.Bool.{Bool, true, false, not, _&&_, _||_, cond, false≢true}
 use mathlib.Core.List.{List}
 use lib.ListN.{length}
 use lib.Dec.{leb, ltb, eqb}
-use borrow.Author.Tests.{leb-true, ltb-true, eqb-true, le-leb, lt-ltb, eq-eqb}
+use borrow.Author.Tests.{leb-true, ltb-true, ltb-false, eqb-true, le-leb, lt-ltb, eq-eqb}
 use Rattle.types.specs.declared.Volume.{Volume}
 use Rattle.types.specs.declared.Mount.{Mount}
 use Rattle.types.specs.declared.Row.{Row}
@@ -167,6 +167,22 @@ in-table t n i x h = by (ltb i n) (rowAt t i) refl h
     by : (b : Bool) (y : Slot) → ltb i n ≡ b → cond b (lookup.Found y) lookup.Nothing ≡ lookup.Found x → (i < n) × (y ≡ x)
     by true y e q = (ltb-true i n e, cc)
     by false y e q = let z : _≡_ {A = ℕ} 0 1 = cc in absurd (omega arith)
+
+not-in-table : (t : List ℕ) (n i : ℕ) → rowIn t n i ≡ lookup.Nothing → n ≤ i
+not-in-table t n i h = by (ltb i n) refl h
+  where
+    by : (b : Bool) → ltb i n ≡ b → cond b (lookup.Found (rowAt t i)) lookup.Nothing ≡ lookup.Nothing → n ≤ i
+    by true e q = let z : _≡_ {A = ℕ} 0 1 = cc in absurd (omega arith)
+    by false e q = ltb-false i n e
+
+module _ (v : Volume) (cnv seq : List ℕ) (k : FileKind) (i : ℕ) where
+  pub lookup-some : (x : Slot) → lookupOf v cnv seq k i ≡ lookup.Found x → i < filesOf k v
+  unfolding lookupOf
+  lookup-some x e = in-table (ofKind k cnv seq) (filesOf k v) i x e .0
+
+  pub lookup-none : lookupOf v cnv seq k i ≡ lookup.Nothing → filesOf k v ≤ i
+  unfolding lookupOf
+  lookup-none e = not-in-table (ofKind k cnv seq) (filesOf k v) i e
 
 module _ (v : Volume) (cnv seq : List ℕ) (k : FileKind) (i : ℕ) (r : Row) where
   -- a row that is found and sound

@@ -13,6 +13,10 @@ use Rattle.types.specs.declared.FindAnswer.{FindAnswer}
 use Rattle.types.specs.declared.FindAnswer.the-variants as find
 use Rattle.calls.specs.declared.Name.{Name}
 use Rattle.calls.specs.declared.Name.the-variants.{Found, Nothing}
+use Rattle.calls.specs.declared.names.KindRead.{KindRead}
+use Rattle.calls.specs.declared.names.KindRead.the-variants as kindRead
+use Rattle.calls.specs.declared.names.NumberRead.{NumberRead}
+use Rattle.calls.specs.declared.names.NumberRead.the-variants as numberRead
 use Rattle.calls.specs.declared.Checked.{Checked}
 use Rattle.calls.specs.declared.Checked.the-variants as checked
 use Rattle.calls.specs.Checks.{mostFiles, countsFit, fileOf}
@@ -72,6 +76,18 @@ foundName v cnv seq Nothing = find.Refused refusal.NoFile
 abbrev pub findOf : Volume → List ℕ → List ℕ → List ℕ → FindAnswer
 findOf v cnv seq name =
     cond (countsFit v (length cnv) (length seq)) (foundName v cnv seq (named v name)) (find.Refused refusal.Impossible)
+
+-- ---- what the parts of a name tell, to whoever reads it
+
+-- the first four bytes: the kind whose directory they name, or that they name none
+abbrev pub KindTells : List ℕ → KindRead → Type 0
+KindTells bytes (kindRead.Is k) = bytes ≡ prefixOf k
+KindTells bytes kindRead.Nothing = (k : FileKind) → bytes ≡ prefixOf k → ⊥
+
+-- the rest: the number whose decimal it is, or that it is the decimal of no file's number
+abbrev pub NumberTells : List ℕ → NumberRead → Type 0
+NumberTells bytes (numberRead.Is n) = bytes ≡ decimal n
+NumberTells bytes numberRead.Nothing = (n : ℕ) → n < mostFiles → bytes ≡ decimal n → ⊥
 
 -- what the reading of a name tells: the file that it names, or that it is the name of no file that any mount has
 abbrev pub NameTells : List ℕ → Name → Type 0

@@ -9,17 +9,22 @@ ghost use Rattle.types.specs.declared.Call.{Call};
 ghost use Rattle.types.specs.Blocks.{sectorBytes};
 ghost use Rattle.calls.specs.Checks.{soundSlot, isBusy};
 ghost use Rattle.calls.specs.Calls.{onFile, settled, outcomeOf, refusedWith};
+ghost use Rattle.calls.specs.Names.{foundFile, findOf};
+ghost use Rattle.calls.specs.Show.{lessWriting, modeShown, shown, showOf};
 ghost use Rattle.calls.specs.Told.{Ends};
 use table::Slot;
+use types::Access;
 use types::Answer;
 use types::Call;
 use types::FileKind;
+use types::FindAnswer;
 use types::Held;
 use types::Mount;
 use types::Outcome;
 use types::Outstanding;
 use types::Refusal;
 use types::Row;
+use types::ShowAnswer;
 
 // What a lookup finds: a file's row as its words say, or that there is no such file.
 pub enum Lookup {
@@ -37,6 +42,76 @@ pub enum Checked {
 pub enum Name {
     Found(FileKind, u32),
     Nothing,
+}
+
+fn found_file(kind: FileKind, number: u32, file: Checked) -> FindAnswer
+    ensures { λ r. ⌜ r ≡ foundFile kind number file ⌝ }
+{
+    match file {
+        Checked::Good(_) => FindAnswer::Found(kind, number),
+        Checked::Refused(x) => FindAnswer::Refused(x),
+    }
+}
+
+// The file of a name. Nothing that is outstanding stands in its way.
+pub fn find(m: Mount, cnv: &[u64], seq: &[u64], name: &[u8]) -> FindAnswer
+    ensures { λ r. ⌜ r ≡ findOf (m .volume) (now (cnv .entry)) (now (seq .entry)) (now (name .entry)) ⌝ }
+{
+    let v = m.volume;
+    if !checks::counts_fit(v, cnv.len(), seq.len()) {
+        return FindAnswer::Refused(Refusal::Impossible);
+    }
+    let Name::Found(kind, number) = names::name_read(name) else {
+        return FindAnswer::Refused(Refusal::NoFile);
+    };
+    let Lookup::Found(slot) = checks::lookup(v, cnv, seq, kind, number) else {
+        return FindAnswer::Refused(Refusal::NoFile);
+    };
+    found_file(kind, number, checks::sound_slot(v.block, kind, slot))
+}
+
+// The mode without the bits that let anybody write.
+fn less_writing(mode: u32) -> u32
+    ensures { λ r. ⌜ r ≡ lessWriting mode ⌝ }
+{
+    mode - (mode & 0o222)
+}
+
+fn mode_shown(readonly: bool, a: Access, mode: u32) -> u32
+    ensures { λ r. ⌜ r ≡ modeShown readonly a mode ⌝ }
+{
+    match a {
+        Access::Nothing => 0,
+        Access::Read => less_writing(mode),
+        Access::Write => { if readonly { less_writing(mode) } else { mode } }
+    }
+}
+
+fn show_file(m: Mount, file: Checked) -> ShowAnswer
+    ensures { λ r. ⌜ r ≡ shown m file ⌝ }
+{
+    match file {
+        Checked::Good(row) => {
+            let v = m.volume;
+            let a = row.access;
+            ShowAnswer::Shown(row, mode_shown(m.readonly, a, v.mode))
+        }
+        Checked::Refused(x) => ShowAnswer::Refused(x),
+    }
+}
+
+// A file's row, and the mode that it is shown with. Nothing that is outstanding stands in its way.
+pub fn show(m: Mount, cnv: &[u64], seq: &[u64], kind: FileKind, number: u32) -> ShowAnswer
+    ensures { λ r. ⌜ r ≡ showOf m (now (cnv .entry)) (now (seq .entry)) kind number ⌝ }
+{
+    let v = m.volume;
+    if !checks::counts_fit(v, cnv.len(), seq.len()) {
+        return ShowAnswer::Refused(Refusal::Impossible);
+    }
+    let Lookup::Found(slot) = checks::lookup(v, cnv, seq, kind, number) else {
+        return ShowAnswer::Refused(Refusal::NoFile);
+    };
+    show_file(m, checks::sound_slot(v.block, kind, slot))
 }
 
 fn is_busy(o: Outstanding) -> bool

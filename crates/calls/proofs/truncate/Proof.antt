@@ -4,51 +4,35 @@ use Rattle.calls.proofs.Laws.{file-counts, file-none, file-found}
 use borrow.Author.Needs.{needs}
 use Rattle.calls.proofs.truncate.Statement.{statement}
 use Rattle.calls.proofs.truncate.Tie as tie
-use Rattle.calls.proofs.truncate.Reads as reads
-use Rattle.calls.proofs.truncate.Lts as lts
-use Rattle.calls.proofs.call_on.Reads as call-on-reads
-use Rattle.calls.proofs.checks.counts_fit.Reads as counts-fit-reads
-use Rattle.calls.proofs.checks.lookup.Reads as lookup-reads
-use Rattle.calls.proofs.refused.Reads as refused-reads
 
--- src/lib.rt:162:9
 counts-fit-requires : tie.Need-counts-fit-requires
 counts-fit-requires c κs = search needs
 
--- src/lib.rt:163:9
 refused-requires : tie.Need-refused-requires
 refused-requires c κs = search needs
 
--- src/lib.rt:163:9
 returns : tie.Need-returns
 returns c = let a = c .before .before .before .before .before .before .args in
     simp (file-counts _ (a .cnv .now) (a .seq .now) (a .kind) (a .number) (sym (c .before .before .counts-fit .ensures .0) ∙ not-true _ (c .before .if1 .taken)), c .refused .ensures)
 
--- src/lib.rt:165:31
 lookup-requires : tie.Need-lookup-requires
 lookup-requires c κs = sym (c .before .counts-fit .ensures .0) ∙ not-false _ (c .if1 .left)
 
--- src/lib.rt:165:23
 enum-known-slot : tie.Need-enum-known-slot
 enum-known-slot c = search needs
 
--- src/lib.rt:166:27
 enum-told : tie.Need-enum-told
 enum-told c = search needs
 
--- src/lib.rt:166:9
 refused-requires-2 : tie.Need-refused-requires-2
 refused-requires-2 c κs = search needs
 
--- src/lib.rt:166:9
 returns-2 : tie.Need-returns-2
 returns-2 c = simp (file-none _ _ _ _ _ (sym (c .before .before .before .before .before .counts-fit .ensures .0) ∙ not-false _ (c .before .before .before .before .if1 .left)) (sym (c .before .before .before .lookup .ensures) ∙ c .before .enum-told .given .1), c .refused2 .ensures)
 
--- src/lib.rt:168:5
 call-on-requires : tie.Need-call-on-requires
 call-on-requires c κs = c .before .before .before .before .before .counts-fit .ensures .1 (not-false _ (c .before .before .before .before .if1 .left))
 
--- src/lib.rt:151:1
 returns-3 : tie.Need-returns-3
 returns-3 c = simp (file-found _ _ _ _ _ (sym (c .before .before .before .before .before .before .counts-fit .ensures .0) ∙ not-false _ (c .before .before .before .before .before .if1 .left)) (sym (c .before .before .before .before .lookup .ensures) ∙ c .before .before .slot .given .1), c .call-on .ensures)
 

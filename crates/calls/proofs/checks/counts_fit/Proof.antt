@@ -4,24 +4,16 @@ use Rattle.calls.proofs.Laws.{counts-sector}
 use borrow.Author.Needs.{needs}
 use Rattle.calls.proofs.checks.counts_fit.Statement.{statement}
 use Rattle.calls.proofs.checks.counts_fit.Tie as tie
-use Rattle.calls.proofs.checks.counts_fit.Reads as reads
-use Rattle.calls.proofs.checks.counts_fit.Lts as lts
-use Rattle.calls.proofs.checks.files_fit.Reads as files-fit-reads
-use Rattle.types.proofs.good_block.Reads as good-block-reads
 
--- src/checks.rt:32:5
 files-fit-requires : tie.Need-files-fit-requires
 files-fit-requires c κs = search needs
 
--- src/checks.rt:32:38
 files-fit-requires-2 : tie.Need-files-fit-requires-2
 files-fit-requires-2 c κs = search needs
 
--- src/checks.rt:32:69
 good-block-requires : tie.Need-good-block-requires
 good-block-requires c κs = search needs
 
--- src/checks.rt:28:1
 returns : tie.Need-returns
 unfolding countsFit
 returns c = let a = c .before .before .before .args in (cc, λ t. counts-sector (a .v) (a .cnv) (a .seq) (cc))

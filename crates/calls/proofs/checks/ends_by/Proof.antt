@@ -2,14 +2,10 @@ use mathlib.Core.Path.{sym}
 use Rattle.types.proofs.Tests.{leb-room, leb-no-room}
 use Rattle.calls.proofs.checks.ends_by.Statement.{statement}
 use Rattle.calls.proofs.checks.ends_by.Tie as tie
-use Rattle.calls.proofs.checks.ends_by.Reads as reads
-use Rattle.calls.proofs.checks.ends_by.Lts as lts
 
--- src/checks.rt:121:1
 returns : tie.Need-returns
 returns c = leb-room _ _ _ (c .if1 .taken)
 
--- src/checks.rt:121:1
 returns-2 : tie.Need-returns-2
 returns-2 c = sym (leb-no-room (c .before .args .start) (c .before .args .sectors) _ (c .if1 .left))
 

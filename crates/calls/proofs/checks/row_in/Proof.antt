@@ -2,19 +2,13 @@ use borrow.Author.Tests.{lt-ltb, le-ltb}
 use borrow.Author.Needs.{needs}
 use Rattle.calls.proofs.checks.row_in.Statement.{statement}
 use Rattle.calls.proofs.checks.row_in.Tie as tie
-use Rattle.calls.proofs.checks.row_in.Reads as reads
-use Rattle.calls.proofs.checks.row_in.Lts as lts
-use Rattle.table.proofs.row_at.Reads as row-at-reads
 
--- src/checks.rt:40:23
 row-at-requires : tie.Need-row-at-requires
 row-at-requires c κs = search needs
 
--- src/checks.rt:35:1
 returns : tie.Need-returns
 returns c = simp (lt-ltb _ _ (c .before .if1 .taken), c .row-at .ensures)
 
--- src/checks.rt:35:1
 returns-2 : tie.Need-returns-2
 returns-2 c = simp (le-ltb _ _ (c .if1 .left))
 

@@ -3,31 +3,22 @@ use Rattle.calls.proofs.Laws.{sound-row}
 use borrow.Author.Needs.{needs}
 use Rattle.calls.proofs.checks.sound_slot.Statement.{statement}
 use Rattle.calls.proofs.checks.sound_slot.Tie as tie
-use Rattle.calls.proofs.checks.sound_slot.Reads as reads
-use Rattle.calls.proofs.checks.sound_slot.Lts as lts
-use Rattle.calls.proofs.checks.sound_row.Reads as sound-row-reads
 
--- src/checks.rt:179:20
 enum-known-slot : tie.Need-enum-known-slot
 enum-known-slot c = search needs
 
--- src/checks.rt:180:33
 enum-told : tie.Need-enum-told
 enum-told c = search needs
 
--- src/checks.rt:180:9
 returns : tie.Need-returns
 returns c = (simp (c .enum-told .given .1), tt)
 
--- src/checks.rt:182:8
 sound-row-requires : tie.Need-sound-row-requires
 sound-row-requires c κs = search needs
 
--- src/checks.rt:174:1
 returns-2 : tie.Need-returns-2
 returns-2 c = (simp (c .before .before .before .slot .given .1, sym (c .before .sound-row .ensures) ∙ c .if1 .taken), sound-row _ _ _ (sym (c .before .sound-row .ensures) ∙ c .if1 .taken) .ends)
 
--- src/checks.rt:174:1
 returns-3 : tie.Need-returns-3
 returns-3 c = (simp (c .before .before .before .slot .given .1, sym (c .before .sound-row .ensures) ∙ c .if1 .left), tt)
 

@@ -6,14 +6,10 @@ use borrow.Author.Tests.{ltb-false}
 use Rattle.types.proofs.Tests.{ltb-room, ltb-no-room}
 use Rattle.calls.proofs.rows.is_beyond.Statement.{statement}
 use Rattle.calls.proofs.rows.is_beyond.Tie as tie
-use Rattle.calls.proofs.rows.is_beyond.Reads as reads
-use Rattle.calls.proofs.rows.is_beyond.Lts as lts
 
--- src/rows.rt:40:1
 returns : tie.Need-returns
 returns c = (ltb-room _ _ _ (c .if1 .taken), λ e. omega (arith, ltb-false (c .before .args .capacity - c .before .args .offset) (c .before .args .length) e))
 
--- src/rows.rt:40:1
 returns-2 : tie.Need-returns-2
 returns-2 c = (sym (ltb-no-room (c .before .args .offset) (c .before .args .length) _ (c .if1 .left)), λ e. absurd (false≢true (sym e)))
 

@@ -4,40 +4,27 @@ use Rattle.calls.specs.Calls.{readRow, refuse}
 use borrow.Author.Needs.{needs}
 use Rattle.calls.proofs.rows.read_row.Statement.{statement}
 use Rattle.calls.proofs.rows.read_row.Tie as tie
-use Rattle.calls.proofs.rows.read_row.Reads as reads
-use Rattle.calls.proofs.rows.read_row.Lts as lts
-use Rattle.calls.proofs.rows.is_beyond.Reads as is-beyond-reads
-use Rattle.calls.proofs.rows.is_unreadable.Reads as is-unreadable-reads
-use Rattle.calls.proofs.rows.read_count.Reads as read-count-reads
-use Rattle.calls.proofs.rows.transferred.Reads as transferred-reads
 
--- src/rows.rt:111:8
 is-unreadable-requires : tie.Need-is-unreadable-requires
 is-unreadable-requires c κs = search needs
 
--- src/rows.rt:112:9
 returns : tie.Need-returns
 unfolding readRow refuse
 returns c = simp (sym (c .before .is-unreadable .ensures) ∙ c .if1 .taken)
 
--- src/rows.rt:114:8
 is-beyond-requires : tie.Need-is-beyond-requires
 is-beyond-requires c κs = search needs
 
--- src/rows.rt:115:9
 returns-2 : tie.Need-returns-2
 unfolding readRow refuse
 returns-2 c = simp (sym (c .before .before .before .is-unreadable .ensures) ∙ c .before .before .if1 .left, sym (c .before .is-beyond .ensures .0) ∙ c .if2 .taken)
 
--- src/rows.rt:117:9
 read-count-requires : tie.Need-read-count-requires
 read-count-requires c κs = search needs
 
--- src/rows.rt:118:5
 transferred-requires : tie.Need-transferred-requires
 transferred-requires c κs = omega (arith, c .before .before .is-beyond .ensures .1 (c .before .if2 .left))
 
--- src/rows.rt:106:1
 returns-3 : tie.Need-returns-3
 unfolding readRow refuse
 returns-3 c = simp (sym (c .before .before .before .before .before .is-unreadable .ensures) ∙ c .before .before .before .before .if1 .left, sym (c .before .before .before .is-beyond .ensures .0) ∙ c .before .before .if2 .left, c .transferred .ensures, c .before .read-count .ensures)

@@ -3,20 +3,14 @@ use borrow.Author.Tests.{eq-eqb, ne-eqb}
 use borrow.Author.Needs.{needs}
 use Rattle.calls.proofs.rows.transferred.Statement.{statement}
 use Rattle.calls.proofs.rows.transferred.Tie as tie
-use Rattle.calls.proofs.rows.transferred.Reads as reads
-use Rattle.calls.proofs.rows.transferred.Lts as lts
-use Rattle.calls.proofs.rows.command_of.Reads as command-of-reads
 
--- src/rows.rt:102:23
 command-of-requires : tie.Need-command-of-requires
 command-of-requires c κs = search needs
 
--- src/rows.rt:95:1
 returns : tie.Need-returns
 unfolding atOnce
 returns c = simp (eq-eqb _ _ (c .if1 .taken))
 
--- src/rows.rt:95:1
 returns-2 : tie.Need-returns-2
 unfolding atOnce
 returns-2 c = simp (ne-eqb _ _ (c .before .if1 .left), c .command-of .ensures)
