@@ -18,7 +18,7 @@ use Rattle.zones.specs.declared.ReportCheck.the-variants.{Good, Bad}
 use Rattle.zones.specs.Zone.{startsAt, goodLength, goodCapacity, goodEnd, goodType, goodCondition, goodPointer, pointed, pointsWell, goodRecord, goodZone}
 use Rattle.zones.specs.Report.{headerBytes, zoneBytes, mostZones, zoneCount, capacityGiven, goodHeader, zoneOf, zonesFrom, zonesOf, goodRun, reportCheck}
 use Rattle.zones.specs.Told.{Framed, Pointed, Sound, AllSound}
-use Rattle.zones.proofs.Tests.{and-left, and-right, cases}
+use Rattle.types.proofs.Tests.{and-left, and-right, means-out, cases}
 
 -- A HEADER
 
@@ -50,10 +50,6 @@ record-told unit z h =
     let t = six (goodLength unit z) (goodCapacity unit z) (goodEnd z) (goodType z) (goodCondition z) (goodPointer unit z) h in
     record { length = t .0; capacity = t .1; end = t .2; kind = t .3; condition = t .4; pointer = t .5 }
 
-held : (a b : Bool) → not a || b ≡ true → a ≡ true → b ≡ true
-held true b h e = h
-held false b h e = absurd (false≢true e)
-
 -- a zone whose record is good is sound
 pub record-sound : (unit : ℕ) (z : Zone) → goodRecord unit z ≡ true → Sound z
 record-sound unit z h =
@@ -62,7 +58,7 @@ record-sound unit z h =
     record {
       held = leb-true _ _ inside;
       end = leb-true _ _ (t .end);
-      pointer = λ p. points (held (pointed z) (pointsWell unit z) (t .pointer) p);
+      pointer = λ p. points (means-out (pointed z) (pointsWell unit z) (t .pointer) p);
     }
   where
     points : pointsWell unit z ≡ true → Pointed z

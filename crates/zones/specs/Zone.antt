@@ -1,26 +1,15 @@
 -- A zone record, when it is good input, and what it says of its zone. Numbers of a record are in sectors of 512 bytes.
 -- Everywhere `unit` is the block in sectors.
-use Prim.Native.Nat.{ℕ, _+_, _-_, _*_, _/_, _%_, _^_}
+use Prim.Native.Nat.{ℕ, _+_, _-_, _^_}
 use mathlib.Core.List.{List}
 use mathlib.Core.Bool.{Bool, true, false, cond, not, _&&_, _||_}
 use lib.ListN.{getD}
-use lib.Dec.{ltb, leb, eqb}
+use lib.Dec.{leb, eqb}
 use Rattle.types.specs.declared.Condition.{Condition}
 use Rattle.types.specs.declared.Condition.the-variants.{Healthy, ReadOnly, Offline}
+use Rattle.types.specs.Blocks.{bytesOf, onBlock, wholeBlocks}
 use Rattle.wire.specs.Le.{le}
 use Rattle.zones.specs.declared.Zone.{Zone}
-
--- "sectors of 512 bytes"
-abbrev pub sectorBytes : ℕ
-sectorBytes = 512
-
--- the bytes of so many sectors
-abbrev pub bytesOf : ℕ → ℕ
-bytesOf sectors = sectors * sectorBytes
-
--- the sectors of a block
-abbrev pub blockSectors : ℕ → ℕ
-blockSectors block = block / sectorBytes
 
 -- "start u64 at 0, length at 8, write pointer at 16, type byte at 24, condition byte at 25, capacity u64 at 32; other bytes ignored.
 -- Flag clear: capacity is length."
@@ -62,14 +51,6 @@ abbrev pub writtenSize : Zone → ℕ
 writtenSize z = bytesOf (z .pointer - z .start)
 
 -- ---- "A zone is good input if", test by test
-
--- "on a block"
-abbrev pub onBlock : ℕ → ℕ → Bool
-onBlock unit n = eqb (n % unit) 0
-
--- "nonzero multiples of the block"
-abbrev pub wholeBlocks : ℕ → ℕ → Bool
-wholeBlocks unit n = ltb 0 n && onBlock unit n
 
 -- "the first starts at 0, each next where the last ended"
 abbrev pub startsAt : ℕ → Zone → Bool

@@ -6,39 +6,27 @@ use native.Mathlib.Omega.{arith}
 use borrow.Author.Needs.{needs}
 use Rattle.zones.proofs.check_report.Statement.{statement}
 use Rattle.zones.proofs.check_report.Tie as tie
-use Rattle.zones.proofs.check_report.Reads as reads
-use Rattle.zones.proofs.check_report.Lts as lts
-use Rattle.zones.proofs.good_header.Reads as good-header-reads
-use Rattle.zones.proofs.good_zones.Reads as good-zones-reads
-use Rattle.zones.proofs.zone_count.Reads as zone-count-reads
 
--- src/lib.rt:315:8
 good-header-requires : tie.Need-good-header-requires
 good-header-requires c κs = search needs
 
--- src/lib.rt:316:13
 zone-count-requires : tie.Need-zone-count-requires
 zone-count-requires c κs = omega (arith, framed (c .before .before .before .args .b .now) (sym (c .before .good-header .ensures) ∙ c .if1 .taken) .whole)
 
--- src/lib.rt:317:13
 good-zones-requires : tie.Need-good-zones-requires
 good-zones-requires c κs = (framed (c .before .before .before .before .args .b .now) (sym (c .before .before .good-header .ensures) ∙ c .before .if1 .taken), search needs)
 
--- src/lib.rt:319:47
 cast-t9 : tie.Need-cast-t9
 cast-t9 c = let f = framed (c .before .before .before .before .before .before .args .b .now) (sym (c .before .before .before .before .good-header .ensures) ∙ c .before .before .before .if1 .taken) in omega arith
 
--- src/lib.rt:311:1
 returns : tie.Need-returns
 unfolding reportCheck
 returns c = simp (sym (c .before .before .before .before .good-header .ensures) ∙ c .before .before .before .if1 .taken, sym (c .before .good-zones .ensures), sym (c .before .before .zone-count .ensures), lt-ltb _ _ (c .if2 .taken))
 
--- src/lib.rt:311:1
 returns-2 : tie.Need-returns-2
 unfolding reportCheck
 returns-2 c = simp (sym (c .before .before .before .before .good-header .ensures) ∙ c .before .before .before .if1 .taken, sym (c .before .good-zones .ensures), sym (c .before .before .zone-count .ensures), le-ltb _ _ (c .if2 .left))
 
--- src/lib.rt:311:1
 returns-3 : tie.Need-returns-3
 unfolding reportCheck
 returns-3 c = simp (sym (c .before .good-header .ensures) ∙ c .if1 .left)

@@ -5,41 +5,29 @@ use Rattle.zones.specs.Report.{goodHeader, headerBytes}
 use borrow.Author.Needs.{needs}
 use Rattle.zones.proofs.good_header.Statement.{statement}
 use Rattle.zones.proofs.good_header.Tie as tie
-use Rattle.zones.proofs.good_header.Reads as reads
-use Rattle.zones.proofs.good_header.Lts as lts
-use Rattle.wire.proofs.u32_at.Reads as u32-at-reads
-use Rattle.wire.proofs.u64_at.Reads as u64-at-reads
 
--- src/lib.rt:268:13
 u64-at-requires : tie.Need-u64-at-requires
 u64-at-requires c κs = search needs
 
--- src/lib.rt:269:21
 u32-at-requires : tie.Need-u32-at-requires
 u32-at-requires c κs = search needs
 
--- src/lib.rt:269:21
 cast-count : tie.Need-cast-count
 cast-count c = search needs
 
--- src/lib.rt:270:13
 u32-at-requires-2 : tie.Need-u32-at-requires-2
 u32-at-requires-2 c κs = search needs
 
--- src/lib.rt:275:42
 mul-result : tie.Need-mul-result
 mul-result c = search needs
 
--- src/lib.rt:275:27
 add-result : tie.Need-add-result
 add-result c = search needs
 
--- src/lib.rt:264:1
 returns : tie.Need-returns
 unfolding goodHeader
 returns c = rw (c .u32-at2 .ensures, c .before .u32-at .ensures, c .before .before .u64-at .ensures, le-leb headerBytes (length (c .before .before .before .before .before .args .b .now)) (omega arith))
 
--- src/lib.rt:264:1
 returns-2 : tie.Need-returns-2
 unfolding goodHeader
 returns-2 c = rw (lt-leb headerBytes (length (c .before .before .args .b .now)) (omega arith))

@@ -2,15 +2,10 @@ use Rattle.zones.specs.Zone.{goodZone}
 use borrow.Author.Needs.{needs}
 use Rattle.zones.proofs.good_zone.Statement.{statement}
 use Rattle.zones.proofs.good_zone.Tie as tie
-use Rattle.zones.proofs.good_zone.Reads as reads
-use Rattle.zones.proofs.good_zone.Lts as lts
-use Rattle.zones.proofs.good_record.Reads as good-record-reads
 
--- src/lib.rt:243:9
 good-record-requires : tie.Need-good-record-requires
 good-record-requires c κs = search needs
 
--- src/lib.rt:239:1
 returns : tie.Need-returns
 unfolding goodZone
 returns c = rw (c .before .good-record .ensures)

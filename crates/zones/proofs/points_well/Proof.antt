@@ -1,18 +1,14 @@
-use Rattle.zones.proofs.Tests.{leb-same, eqb-same}
+use Rattle.types.proofs.Tests.{leb-same, eqb-same}
 use Prim.Native.Nat.{_+_, _-_}
 use native.Mathlib.Omega.{arith}
 use borrow.Author.Tests.{le-leb, lt-leb}
 use borrow.Author.Needs.{needs}
 use Rattle.zones.proofs.points_well.Statement.{statement}
 use Rattle.zones.proofs.points_well.Tie as tie
-use Rattle.zones.proofs.points_well.Reads as reads
-use Rattle.zones.proofs.points_well.Lts as lts
 
--- src/lib.rt:208:16
 rem-result : tie.Need-rem-result
 rem-result c = search needs
 
--- src/lib.rt:201:1
 returns : tie.Need-returns
 returns c = let z = c .before .before .before .before .before .before .before .args .z in rw (
   le-leb (z .start) (z .pointer) (omega arith),
@@ -20,7 +16,6 @@ returns c = let z = c .before .before .before .before .before .before .before .a
   eqb-same (z .pointer - z .start) (z .capacity) (z .pointer) (z .start + z .capacity) (λ h. omega arith) (λ h. omega arith),
 )
 
--- src/lib.rt:201:1
 returns-2 : tie.Need-returns-2
 returns-2 c = let z = c .before .before .args .z in rw (lt-leb (z .start) (z .pointer) (omega arith))
 

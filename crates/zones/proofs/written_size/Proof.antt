@@ -2,19 +2,13 @@ use native.Mathlib.Omega.{arith}
 use borrow.Author.Needs.{needs}
 use Rattle.zones.proofs.written_size.Statement.{statement}
 use Rattle.zones.proofs.written_size.Tie as tie
-use Rattle.zones.proofs.written_size.Reads as reads
-use Rattle.zones.proofs.written_size.Lts as lts
-use Rattle.zones.proofs.bytes_of.Reads as bytes-of-reads
 
--- src/lib.rt:127:14
 sub-bytes-of : tie.Need-sub-bytes-of
 sub-bytes-of c = let p = c .before .pre .0 .pointer (c .before .pre .1) in omega arith
 
--- src/lib.rt:127:5
 bytes-of-requires : tie.Need-bytes-of-requires
 bytes-of-requires c κs = let p = c .before .pre .0 .pointer (c .before .pre .1) in omega arith
 
--- src/lib.rt:123:1
 returns : tie.Need-returns
 returns c = search needs
 

@@ -1,0 +1,4 @@
+pub mod Mounted
+pub mod Runs
+pub mod Tables
+pub mod Turns

@@ -1,0 +1,72 @@
+-- A filled table: row after row stored gives it, its rows read back, and its length.
+-- Assumes nothing.
+use mathlib.Core.Path.{_≡_, refl, ap, _∙_, sym}
+use mathlib.Core.List.{List, [], _∷_, _++_}
+use mathlib.Core.Logic.{_≢_}
+use Prim.Native.Nat.{ℕ, zero, suc, _+_, _*_, _≤_, _<_}
+use native.Mathlib.Nat.{zero-add}
+use native.Mathlib.Omega.{arith}
+use lib.ListN.{length, drop, getD}
+use lib.Seq.{sets, sets-eq}
+use Rattle.types.specs.declared.Row.{Row}
+use Rattle.table.specs.declared.Slot.the-variants.{Good}
+use Rattle.table.specs.Rows.{rowWidth, rowsLent, rowWords, rowAt, setRow}
+use Rattle.table.proofs.Laws.{setRow-length, rowAt-same, rowAt-other}
+use Rattle.mount.specs.Fill.{words, fill}
+use Rattle.mount.specs.Walk.{fillFrom}
+
+-- THE ROWS STORED
+
+fill-sets : (t : List ℕ) (i : ℕ) (rows : List Row) → fillFrom t i rows ≡ sets t (i * rowWidth) (words rows)
+unfolding fillFrom words setRow
+fill-sets t i [] = refl
+fill-sets t i (r ∷ rs) =
+    let next : (i + 1) * 5 ≡ suc (suc (suc (suc (suc (i * 5))))) = omega arith in
+    fill-sets (setRow t i r) (i + 1) rs ∙ rw next
+
+words-length : (rows : List Row) → length (words rows) ≡ length rows * rowWidth
+unfolding words
+words-length [] = refl
+words-length (r ∷ rs) = omega (arith, words-length rs)
+
+-- row after row stored is the filled table
+pub fill-from : (t : List ℕ) (rows : List Row) → length rows ≤ rowsLent (length t) → fillFrom t 0 rows ≡ fill t rows
+unfolding fill
+fill-from t rows h =
+    fill-sets t 0 rows
+    ∙ sets-eq (words rows) t 0 (omega (arith, words-length rows))
+    ∙ ap (λ (n : ℕ). words rows ++ drop n t) (zero-add (length (words rows)) ∙ words-length rows)
+
+-- ITS ROWS
+
+from-below : (t : List ℕ) (i : ℕ) (rows : List Row) (j : ℕ) → j < i → rowAt (fillFrom t i rows) j ≡ rowAt t j
+unfolding fillFrom
+from-below t i [] j h = refl
+from-below t i (r ∷ rs) j h = from-below (setRow t i r) (i + 1) rs j (omega arith) ∙ rowAt-other t i j r (λ q. omega arith)
+
+from-row : (t : List ℕ) (i : ℕ) (rows : List Row) (n : ℕ) (d : Row) → n < length rows → i + length rows ≤ rowsLent (length t) → rowAt (fillFrom t i rows) (i + n) ≡ Good (getD rows n d)
+unfolding fillFrom
+from-row t i [] n d h f = absurd (omega arith)
+from-row t i (r ∷ rs) zero d h f =
+    let here : i + 0 ≡ i = omega arith in
+    rw here (from-below (setRow t i r) (i + 1) rs i (omega arith) ∙ rowAt-same t i r (omega arith))
+from-row t i (r ∷ rs) (suc n) d h f =
+    let there : i + suc n ≡ i + 1 + n = omega arith in
+    rw there (from-row (setRow t i r) (i + 1) rs n d (omega arith) (omega (arith, setRow-length t i r)))
+
+-- row n of a filled table is row n of the list
+pub filled-row : (t : List ℕ) (rows : List Row) (n : ℕ) (d : Row) → n < length rows → length rows ≤ rowsLent (length t) → rowAt (fill t rows) n ≡ Good (getD rows n d)
+filled-row t rows n d h f =
+    ap (λ (u : List ℕ). rowAt u n) (sym (fill-from t rows f))
+    ∙ ap (rowAt (fillFrom t 0 rows)) (sym (zero-add n))
+    ∙ from-row t 0 rows n d h (omega arith)
+
+-- ITS LENGTH
+
+from-length : (t : List ℕ) (i : ℕ) (rows : List Row) → length (fillFrom t i rows) ≡ length t
+unfolding fillFrom
+from-length t i [] = refl
+from-length t i (r ∷ rs) = from-length (setRow t i r) (i + 1) rs ∙ setRow-length t i r
+
+pub fill-length : (t : List ℕ) (rows : List Row) → length rows ≤ rowsLent (length t) → length (fill t rows) ≡ length t
+fill-length t rows f = ap length (sym (fill-from t rows f)) ∙ from-length t 0 rows

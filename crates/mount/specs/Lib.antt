@@ -1,0 +1,4 @@
+pub mod Files
+pub mod Fill
+pub mod Mount
+pub mod Walk

@@ -1,0 +1,63 @@
+-- The mount options: "up to 255 bytes, pieces split by commas, empty pieces skipped, each `errors=` with `remount-ro`, `zone-ro`,
+-- `zone-offline` or `repair`; the last wins; default remount-ro".
+use Prim.Native.Nat.{ℕ}
+use Prim.Native.Char.{code}
+use mathlib.Core.Bool.{Bool, true, false, cond, _&&_}
+use mathlib.Core.List.{List, [], _∷_, foldl}
+use lib.ListN.{length}
+use lib.Dec.{leb, eqb}
+use Rattle.options.specs.Text.{ascii}
+use Rattle.types.specs.declared.ErrorPolicy.the-variants.{RemountRo, ZoneRo, ZoneOffline, Repair}
+use Rattle.options.specs.declared.Options.{Options}
+use Rattle.options.specs.declared.Options.the-variants.{Policy, Bad}
+
+-- "up to 255 bytes"
+abbrev pub mostBytes : ℕ
+mostBytes = 255
+
+abbrev pub comma : ℕ
+comma = code ","
+
+-- "pieces split by commas": a byte in front of the first piece
+abbrev pub inFront : ℕ → List (List ℕ) → List (List ℕ)
+inFront x [] = (x ∷ []) ∷ []
+inFront x (piece ∷ pieces) = (x ∷ piece) ∷ pieces
+
+-- "pieces split by commas"
+unfoldable pub split : List ℕ → List (List ℕ)
+split [] = [] ∷ []
+split (x ∷ xs) = cond (eqb x comma) ([] ∷ split xs) (inFront x (split xs))
+
+-- "empty pieces skipped"
+unfoldable pub skipEmpty : List (List ℕ) → List (List ℕ)
+skipEmpty [] = []
+skipEmpty ([] ∷ pieces) = skipEmpty pieces
+skipEmpty ((x ∷ xs) ∷ pieces) = (x ∷ xs) ∷ skipEmpty pieces
+
+-- two texts are the same, byte for byte
+unfoldable pub same : List ℕ → List ℕ → Bool
+same [] [] = true
+same [] (y ∷ ys) = false
+same (x ∷ xs) [] = false
+same (x ∷ xs) (y ∷ ys) = eqb x y && same xs ys
+
+-- "each `errors=` with `remount-ro`, `zone-ro`, `zone-offline` or `repair`": what a piece asks for
+unfoldable pub pieceOf : List ℕ → Options
+pieceOf piece =
+    cond (same piece (ascii "errors=remount-ro")) (Policy RemountRo)
+    (cond (same piece (ascii "errors=zone-ro")) (Policy ZoneRo)
+    (cond (same piece (ascii "errors=zone-offline")) (Policy ZoneOffline)
+    (cond (same piece (ascii "errors=repair")) (Policy Repair) Bad)))
+
+-- "the last wins", where no piece is bad
+abbrev pub afterPiece : Options → List ℕ → Options
+afterPiece Bad piece = Bad
+afterPiece (Policy policy) piece = pieceOf piece
+
+-- the pieces in their order, after what stood before them
+abbrev pub afterPieces : Options → List (List ℕ) → Options
+afterPieces before pieces = foldl afterPiece before (skipEmpty pieces)
+
+-- "default remount-ro"
+unfoldable pub optionsOf : List ℕ → Options
+optionsOf text = cond (leb (length text) mostBytes) (afterPieces (Policy RemountRo) (split text)) Bad

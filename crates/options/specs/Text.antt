@@ -1,0 +1,10 @@
+-- A quoted text as the bytes that a program holds for it.
+use Prim.Native.Nat.{ℕ}
+use Prim.Native.Char.{code}
+use Prim.Native.String.{String, [], _∷_}
+use mathlib.Core.List.{List, [] as none, _∷_ as _then_}
+
+-- the characters' codes, in order: the bytes of a text in ASCII
+abbrev pub ascii : String → List ℕ
+ascii [] = none
+ascii (c ∷ text) = code c then ascii text
