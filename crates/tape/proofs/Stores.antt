@@ -2,15 +2,14 @@
 -- Assumes nothing.
 use mathlib.Core.Path.{_≡_, refl, ap, _∙_, sym}
 use mathlib.Core.List.{List, [], _∷_, _++_}
-use mathlib.Core.Bool.{Bool, true, false, cond}
 use Prim.Native.Nat.{ℕ, zero, suc, _+_, _-_, _*_, _/_, _%_, _^_, _≤_, _<_}
 use native.Mathlib.Nat.{add-zero, add-suc, suc-add, pow-suc}
 use native.Mathlib.Omega.{arith}
 use native.Mathlib.Numerals.{add-one}
 use lib.ListN.{length, length-append}
 use lib.Seq.{sets}
-use borrow.Author.Tests.{lt-ltb, le-ltb}
-use Rattle.tape.specs.Text.{decimalBy}
+use Rattle.calls.specs.Names.{decimal}
+use Rattle.calls.proofs.Decimal.{decimal-more}
 use Rattle.tape.specs.Put.{Put}
 
 pub sets-append : (xs ys l : List ℕ) (i : ℕ) → sets (sets l i xs) (i + length xs) ys ≡ sets l i (xs ++ ys)
@@ -26,17 +25,11 @@ then {a} {b} {c} {x} {y} {i} {j} {k} p q = record {
   place = omega (arith, p .place, q .place, length-append x y);
 }
 
--- a number below ten
-pub decimal-small : (k n : ℕ) → 0 < k → n < 10 → decimalBy k n ≡ (48 + n) ∷ []
-unfolding decimalBy
-decimal-small zero n k h = absurd (omega arith)
-decimal-small (suc k) n p h = rw (lt-ltb n 10 h)
-
--- and one that is not: its last digit stands after the others
-pub decimal-more : (k n : ℕ) → 0 < k → 10 ≤ n → decimalBy k n ≡ decimalBy (k - 1) (n / 10) ++ ((48 + n % 10) ∷ [])
-unfolding decimalBy
-decimal-more zero n k h = absurd (omega arith)
-decimal-more (suc k) n p h = let e : suc k - 1 ≡ k = omega arith in rw (le-ltb n 10 h, e)
+-- a number of more digits than one: its last stands after the others
+pub last-digit : (n : ℕ) → 10 ≤ n → decimal n ≡ decimal (n / 10) ++ ((48 + n % 10) ∷ [])
+last-digit n h =
+    let e : n / 10 * 10 + n % 10 ≡ n = omega arith in
+    ap decimal (sym e) ∙ decimal-more (n / 10) (n % 10) (omega arith) (omega arith)
 
 -- the number without its last digit has a digit less
 pub shorter : (k n : ℕ) → 0 < k → n < 10 ^ k → n / 10 < 10 ^ (k - 1)

@@ -3,7 +3,8 @@ ghost use mathlib.Core.Path.{_≡_};
 ghost use mathlib.Core.List.{[], _∷_};
 ghost use Prim.Native.Nat.{_+_, _≤_, _<_, _^_};
 ghost use lib.ListN.{length};
-ghost use Rattle.tape.specs.Text.{decimal, decimalBy, field};
+ghost use Rattle.calls.specs.Names.{decimal};
+ghost use Rattle.tape.specs.Text.{field};
 ghost use Rattle.tape.specs.Put.{Put};
 
 // One byte.
@@ -18,7 +19,7 @@ pub fn put_byte(out: &mut [u8], at: usize, b: u8) -> usize
 // The decimal digits of a number that has at most `places` of them.
 fn put_digits(out: &mut [u8], at: usize, n: u64, places: usize) -> usize
     requires { ⌜ (at + places ≤ length (now out)) × (n < 10 ^ places) × (0 < places) ⌝ }
-    ensures { λ r. ⌜ Put (now (out .entry)) (now (out .exit)) at r (decimalBy places n) ⌝ }
+    ensures { λ r. ⌜ Put (now (out .entry)) (now (out .exit)) at r (decimal n) ⌝ }
     ensures { λ r. ⌜ r ≤ at + places ⌝ }
 {
     if n < 10 {

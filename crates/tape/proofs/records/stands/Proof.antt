@@ -1,3 +1,4 @@
+use mathlib.Core.Bool.{false≢true}
 use native.Mathlib.Omega.{arith}
 use mathlib.Core.Path.{sym, _∙_}
 use Rattle.tape.specs.Records.{stands}
@@ -27,12 +28,12 @@ shared-slice-read-result-2 c = omega (arith, c .before .before .before .holds .e
 -- src/records.rt:34:1
 returns : tie.Need-returns
 unfolding stands
-returns c = (simp (sym (c .before .before .before .holds .ensures .0) ∙ c .before .before .if1 .taken), λ (_). c .before .before .before .holds .ensures .1 (c .before .before .if1 .taken))
+returns c = (simp (sym (c .before .before .before .holds .ensures .0) ∙ c .before .before .if1 .taken), λ e. c .before .before .before .holds .ensures .1 (c .before .before .if1 .taken))
 
 -- src/records.rt:34:1
 returns-2 : tie.Need-returns-2
 unfolding stands
-returns-2 c = (simp (sym (c .before .holds .ensures .0) ∙ c .if1 .left), λ (e). absurd ?)
+returns-2 c = (simp (sym (c .before .holds .ensures .0) ∙ c .if1 .left), λ e. absurd (false≢true e))
 
 pub stands-spec : {M : Type 1} → statement M
 stands-spec =

@@ -1,6 +1,7 @@
 use native.Mathlib.Omega.{arith}
 use Prim.Native.Nat.{_+_}
-use Rattle.tape.proofs.Stores.{then, decimal-small, decimal-more, shorter, some-left}
+use Rattle.tape.proofs.Stores.{then, last-digit, shorter, some-left}
+use Rattle.calls.proofs.Decimal.{decimal-one}
 use borrow.Author.Needs.{needs}
 use Prim.Native.Nat.{ℕ, _<_}
 use borrow.Fn.Kinds.{In}
@@ -107,7 +108,7 @@ put-digits-returns : (t : ℕ) → put-digits-lts.Need-returns (
 ) (put-digits-at t) put-digits.Post
 put-digits-returns t c =
     let a = c .before .before .before .before .before .before .args in
-    (rw (decimal-small (a .places) (a .n) (omega arith) (omega arith)) (c .before .before .put-byte .ensures), omega (arith, c .before .before .put-byte .ensures .place))
+    (rw (decimal-one (a .n) (omega arith)) (c .before .before .put-byte .ensures), omega (arith, c .before .before .put-byte .ensures .place))
 
 put-digits-same-length-2 : (t : ℕ) → put-digits-lts.Need-same-length-2 (
   put-byte-reads.Asked,
@@ -126,7 +127,7 @@ put-digits-returns-2 : (t : ℕ) → put-digits-lts.Need-returns-2 (
 put-digits-returns-2 t c =
     let e = c .before .before .before .before .before .before in
     let a = e .before .before .before .before .args in
-    (rw (decimal-more (a .places) (a .n) (omega arith) (omega arith)) (then (e .put-digits .ensures .0) (c .before .before .put-byte2 .ensures)), omega (arith, c .before .before .put-byte2 .ensures .place))
+    (rw (last-digit (a .n) (omega arith)) (then (e .put-digits .ensures .0) (c .before .before .put-byte2 .ensures)), omega (arith, c .before .before .put-byte2 .ensures .place))
 
 pub +put-digits-spec : {M : Type 1} → statement M
 +put-digits-spec = close μ-put-digits λ t. put-digits-lts.spec (
