@@ -73,6 +73,10 @@ mountPlace b = reportPlace + 2 + reportLength (zoneCount b)
 abbrev pub optionsLength : List ℕ → ℕ
 optionsLength b = getD b (mountPlace b + 2) 0
 
+-- where the records after them start
+abbrev pub runPlace : List ℕ → ℕ
+runPlace b = mountPlace b + 3 + optionsLength b
+
 -- the four stand where they are due, and none of them is cut
 unfoldable pub opens : List ℕ → Bool
 opens b =
@@ -80,7 +84,7 @@ opens b =
     && (stands 83 66 4098 b superPlace
     && (stands 90 82 18 b reportPlace
     && (stands 77 79 3 b (mountPlace b)
-    && holds (3 + optionsLength b) b (mountPlace b))))
+    && leb (runPlace b) (length b))))
 
 -- what they say
 abbrev pub blockOf : List ℕ → ℕ
@@ -94,7 +98,3 @@ reportOf b = take (reportLength (zoneCount b)) (drop (reportPlace + 2) b)
 
 abbrev pub optionsOf : List ℕ → List ℕ
 optionsOf b = take (optionsLength b) (drop (mountPlace b + 3) b)
-
--- where the records after them start
-abbrev pub runPlace : List ℕ → ℕ
-runPlace b = mountPlace b + 3 + optionsLength b

@@ -4,7 +4,7 @@ ghost use mathlib.Core.Bool.{true};
 ghost use Prim.Native.Nat.{_+_, _≤_};
 ghost use lib.ListN.{length};
 ghost use Rattle.tape.specs.Records.{holds, stands, callBytes, offsetAt, lengthAt, onFileAt, recordAt, opens, mountPlace, reportLength, zoneCount, optionsLength, runPlace};
-ghost use Rattle.tape.specs.Told.{Stands};
+ghost use Rattle.tape.specs.Told.{Stands, Opened};
 use types::Call;
 
 // A record after `MO`.
@@ -92,4 +92,52 @@ pub fn record_at(b: &[u8], at: usize) -> Record
     } else {
         Record::Broken
     }
+}
+
+// The length of a report that says it has so many zones.
+fn report_length(count: u32) -> usize
+    ensures { λ r. ⌜ (r ≡ reportLength count) × (r ≤ 65488) ⌝ }
+{
+    if count <= 1023 {
+        16 + 64 * (count as usize)
+    } else {
+        16
+    }
+}
+
+// Where `MO` is due.
+pub fn mount_place(b: &[u8]) -> usize
+    requires { ⌜ 4120 ≤ length (now b) ⌝ }
+    ensures { λ r. ⌜ (r ≡ mountPlace (now (b .entry))) × (r ≤ 69592) ⌝ }
+{
+    4104 + report_length(wire::u32_at(b, 4112))
+}
+
+// Where the records after `MO` start.
+pub fn run_place(b: &[u8]) -> usize
+    requires { ⌜ (4120 ≤ length (now b)) × (mountPlace (now b) + 3 ≤ length (now b)) ⌝ }
+    ensures { λ r. ⌜ r ≡ runPlace (now (b .entry)) ⌝ }
+{
+    let at = mount_place(b);
+    at + 3 + wire::u8_at(b, at + 2) as usize
+}
+
+// The first four records stand where they are due.
+pub fn opens(b: &[u8]) -> bool
+    ensures { λ r. ⌜ r ≡ opens (now (b .entry)) ⌝ }
+    ensures { λ r. ⌜ (r ≡ true → Opened (now (b .entry))) ⌝ }
+{
+    if !stands(b, 0, 66, 75, 4) {
+        return false;
+    }
+    if !stands(b, 4, 83, 66, 4098) {
+        return false;
+    }
+    if !stands(b, 4102, 90, 82, 18) {
+        return false;
+    }
+    if !stands(b, mount_place(b), 77, 79, 3) {
+        return false;
+    }
+    run_place(b) <= b.len()
 }
