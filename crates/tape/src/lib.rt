@@ -6,15 +6,15 @@ mod text;
 ghost use mathlib.Core.Path.{_≡_};
 ghost use mathlib.Core.Bool.{true};
 ghost use mathlib.Core.List.{List, [], _∷_};
-ghost use Prim.Native.Nat.{ℕ, _+_, _≤_};
-ghost use lib.ListN.{length};
+ghost use Prim.Native.Nat.{ℕ, _+_, _^_, _≤_, _<_};
+ghost use lib.ListN.{length, take, set};
 ghost use lib.Seq.{sets};
 ghost use Rattle.calls.specs.Calls.{outcomeOf};
 ghost use Rattle.tape.specs.Records.{opens};
 ghost use Rattle.tape.specs.Lines.{completionLine};
-ghost use Rattle.tape.specs.Tape.{turn, called, callTurn, brokenTurn, turnOf, turnAt, goesOn, mounting, openTurn, textWith, tapeText, playedInto};
-ghost use Rattle.tape.specs.Told.{Stands, Opened, lineRoom, stateOf, Takes, Mounts};
-ghost use Rattle.tape.specs.Put.{Put};
+ghost use Rattle.tape.specs.Tape.{turn, called, callTurn, brokenTurn, turnOf, turnAt, goesOn, mounting, openTurn, textFrom, textWith, tapeText, playedInto};
+ghost use Rattle.tape.specs.Told.{Stands, Opened, lineRoom, stateOf, restOf, Takes, Mounts};
+ghost use Rattle.tape.specs.Put.{Put, Fills};
 use records::Record;
 use types::Answer;
 use types::Call;
@@ -227,4 +227,101 @@ pub fn open_tape(
         next: records::run_place(b),
         mount,
     }
+}
+
+// Stores a byte, where there is room.
+fn put_if_room(out: &mut [u8], at: usize, v: u8)
+    ensures { λ _. ⌜ now (out .exit) ≡ set (now (out .entry)) at v ⌝ }
+{
+    if at < out.len() {
+        out[at] = v;
+        return;
+    }
+}
+
+// Puts the first `n` bytes of a line at `to`, as many as there is room for. Answers the place after all of them.
+fn copy_line(out: &mut [u8], to: usize, line: &[u8], n: usize) -> usize
+    requires { ⌜ (n ≤ length (now line)) × (to + n < 2 ^ 64) ⌝ }
+    ensures { λ r. ⌜ Put (now (out .entry)) (now (out .exit)) to r (take n (now (line .entry))) ⌝ }
+{
+    for i in 0..n {
+        put_if_room(out, to + i, line[i]);
+    }
+    to + n
+}
+
+// As `take_turn`, with as much of the line as there is room for.
+fn turn_into(
+    b: &[u8],
+    at: usize,
+    m: Mount,
+    cnv: &mut [u64],
+    seq: &mut [u64],
+    out: &mut [u8],
+    to: usize,
+) -> Turned
+    requires { ⌜ to ≤ length (now out) ⌝ }
+    ensures { λ r. ⌜ Takes (turnAt (now (b .entry)) at (stateOf m (now (cnv .entry)) (now (seq .entry)))) (now (out .entry)) (now (out .exit)) to r (now (cnv .exit)) (now (seq .exit)) ⌝ }
+{
+    let mut line = [0u8; 96];
+    let t = take_turn(b, at, m, cnv, seq, &mut line, 0);
+    let end = copy_line(out, to, &line, t.to);
+    let mount = t.mount;
+    Turned {
+        to: end,
+        more: t.more,
+        next: t.next,
+        mount,
+    }
+}
+
+// As `open_tape`, with as much of the line as there is room for.
+fn open_into(b: &[u8], cnv: &mut [u64], seq: &mut [u64], out: &mut [u8]) -> Turned
+    ensures { λ r. ⌜ Takes (openTurn (now (b .entry)) (now (cnv .entry)) (now (seq .entry))) (now (out .entry)) (now (out .exit)) 0 r (now (cnv .exit)) (now (seq .exit)) ⌝ }
+{
+    let mut line = [0u8; 96];
+    let t = open_tape(b, cnv, seq, &mut line, 0);
+    let end = copy_line(out, 0, &line, t.to);
+    let mount = t.mount;
+    Turned {
+        to: end,
+        more: t.more,
+        next: t.next,
+        mount,
+    }
+}
+
+// Plays what is left of a tape, until it stops or there is no room. Answers the place after the last line, also where that lies past the end.
+fn play_rest(b: &[u8], t: Turned, cnv: &mut [u64], seq: &mut [u64], out: &mut [u8]) -> usize
+    ensures { λ r. ⌜ Fills (now (out .entry)) (now (out .exit)) (t .to) r (textFrom (length (now (b .entry))) (now (b .entry)) (restOf t (now (cnv .entry)) (now (seq .entry)))) ⌝ }
+{
+    let mut t = t;
+    while t.more & (t.next < b.len()) & (t.to <= out.len()) {
+        t = turn_into(b, t.next, t.mount, cnv, seq, out, t.to);
+    }
+    t.to
+}
+
+// Plays a tape with two tables.
+fn play_with(b: &[u8], cnv: &mut [u64], seq: &mut [u64], out: &mut [u8]) -> Played
+    ensures { λ r. ⌜ r ≡ playedInto (length (now (out .entry))) (textWith (now (b .entry)) (now (cnv .entry)) (now (seq .entry))) ⌝ }
+    ensures { λ _. ⌜ now (out .exit) ≡ sets (now (out .entry)) 0 (textWith (now (b .entry)) (now (cnv .entry)) (now (seq .entry))) ⌝ }
+{
+    let t = open_into(b, cnv, seq, out);
+    let end = play_rest(b, t, cnv, seq, out);
+    if end <= out.len() {
+        Played::Written(end)
+    } else {
+        Played::TooShort
+    }
+}
+
+// Plays a whole tape: puts its text at the start of `out`, as much of it as there is room for.
+pub fn play(b: &[u8], out: &mut [u8]) -> Played
+    ensures { λ r. ⌜ r ≡ playedInto (length (now (out .entry))) (tapeText (now (b .entry))) ⌝ }
+    ensures { λ _. ⌜ now (out .exit) ≡ sets (now (out .entry)) 0 (tapeText (now (b .entry))) ⌝ }
+{
+    let mut cnv = [0u64; 5110];
+    let mut seq = [0u64; 5110];
+    play_with(b, &mut cnv, &mut seq, out)
 }
