@@ -188,8 +188,8 @@ fn play_some(
 {
     let have = p.have;
     let ended = p.ended;
-    let before = p.turned;
-    let t = play_block(&b[..have], before, ended, cnv, seq, out);
+    let turned = p.turned;
+    let t = play_block(&b[..have], turned, ended, cnv, seq, out);
     let end = t.to;
     let next = t.next;
     let is_written = io::write_all(STDOUT_FILENO, &out[..end]);

@@ -1,3 +1,6 @@
+use native.Mathlib.Omega.{arith}
+use mathlib.Core.Path.{sym}
+use lib.Seq.{length-take-le}
 use borrow.Author.Needs.{needs}
 use Rattle.play.proofs.play_some.Statement.{statement}
 use Rattle.play.proofs.play_some.Tie as tie
@@ -16,7 +19,7 @@ slice-reshare-prefix-play-block c = search needs
 
 -- src/main.rt:192:24
 slice-aggregate-play-block : tie.Need-slice-aggregate-play-block
-slice-aggregate-play-block c = ?
+slice-aggregate-play-block c = sym (length-take-le _ _ (c .before .before .before .before .before .before .before .pre .0))
 
 -- src/main.rt:192:9
 play-block-requires : tie.Need-play-block-requires
@@ -28,7 +31,7 @@ slice-reshare-prefix-write-all c = search needs
 
 -- src/main.rt:195:51
 slice-aggregate-write-all : tie.Need-slice-aggregate-write-all
-slice-aggregate-write-all c = ?
+slice-aggregate-write-all c = sym (length-take-le _ _ (omega (arith, c .before .before .before .before .before .before .before .play-block .ensures, c .before .before .before .before .before .before .before .play-block .kept .1 .1 .1 .1 .1 .0)))
 
 -- src/main.rt:195:9
 write-all-requires : tie.Need-write-all-requires
@@ -52,7 +55,7 @@ is-low-requires c κs = search needs
 
 -- src/main.rt:201:9
 refill-requires : tie.Need-refill-requires
-refill-requires c κs = ?
+refill-requires c κs = (c .before .before .before .before .before .before .before .before .before .before .before .before .before .before .before .before .before .before .before .before .before .before .before .before .before .pre .0, c .before .before .before .before .written .ensures)
 
 -- src/main.rt:201:9
 same-length : tie.Need-same-length
@@ -60,7 +63,7 @@ same-length c = search needs
 
 -- src/main.rt:201:9
 same-length-2 : tie.Need-same-length-2
-same-length-2 c = ?
+same-length-2 c = c .before .before .before .before .before .before .before .before .before .before .before .before .before .before .before .before .before .play-block .kept .1 .1 .1 .0
 
 -- src/main.rt:201:9
 same-length-3 : tie.Need-same-length-3
@@ -92,7 +95,7 @@ same-length-8 c = search needs
 
 -- src/main.rt:177:1
 returns-2 : tie.Need-returns-2
-returns-2 c = ?
+returns-2 c = (c .before .before .before .before .before .before .before .before .before .before .before .before .before .before .before .before .before .before .before .before .before .before .before .before .before .pre .0, c .before .before .before .before .written .ensures)
 
 pub play-some-spec : {M : Type 1} → statement M
 play-some-spec =
