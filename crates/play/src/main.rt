@@ -70,11 +70,7 @@ fn fill(fd: i32, name: &[u8], b: &mut [u8], have: usize) -> Input
 
 // No record is longer than 66 bytes, so as many from `next` on hold a whole one.
 fn is_low(next: usize, have: usize) -> bool {
-    if have <= next {
-        true
-    } else {
-        have - next < 66
-    }
+    if have <= next { true } else { have - next < 66 }
 }
 
 // Whether the next record can be played: it stands whole among the bytes that are there, or they are the last, and

@@ -89,10 +89,10 @@ again {b = b} {cnv = cnv} {seq = seq} {r = r} t g e p =
       allowed = g .allowed - 1;
       put = then (g .put) (p .line);
       split =
-        append-assoc (g .sofar) line _
-        ∙ ap (λ (x : Rest). g .sofar ++ (line ++ textFrom (g .allowed - 1) b x)) (p .rest)
-        ∙ ap (λ (x : List ℕ). g .sofar ++ x) (sym (next-text (g .allowed) b r (omega arith) e))
-        ∙ g .split;
+          append-assoc (g .sofar) line _
+          ∙ ap (λ (x : Rest). g .sofar ++ (line ++ textFrom (g .allowed - 1) b x)) (p .rest)
+          ∙ ap (λ (x : List ℕ). g .sofar ++ x) (sym (next-text (g .allowed) b r (omega arith) e))
+          ∙ g .split;
       enough = λ h. omega (arith, onward b (r .next) (r .state) (sym (ap (λ (x : Rest). x .more) (p .rest)) ∙ h), ap (λ (x : Rest). x .next) (p .rest));
     }
 
@@ -109,12 +109,13 @@ cut : {whole before now b : List ℕ} {from to : ℕ} {r : Rest} → Going whole
     → (now ≡ sets before from whole) × (length before < from + length whole)
 cut {before = before} {b = b} {from = from} {r = r} g h =
     let rest = textFrom (g .allowed) b r in
-    let full : length (sets before from (g .sofar)) ≤ from + length (g .sofar) = rw (length-sets before from (g .sofar)) (omega (arith, g .put .place)) in
-    (g .put .bytes
-    ∙ sym (sets-out rest (sets before from (g .sofar)) (from + length (g .sofar)) full)
-    ∙ sets-append (g .sofar) rest before from
-    ∙ ap (λ (x : List ℕ). sets before from x) (g .split),
-    omega (arith, g .put .place, length-append (g .sofar) rest, ap length (g .split)))
+    let full : length (sets before from (g .sofar)) ≤ from + length (g .sofar) = rw (length-sets before from (g .sofar)) (omega (arith, g .put .place)) in (
+      g .put .bytes
+          ∙ sym (sets-out rest (sets before from (g .sofar)) (from + length (g .sofar)) full)
+          ∙ sets-append (g .sofar) rest before from
+          ∙ ap (λ (x : List ℕ). sets before from x) (g .split),
+      omega (arith, g .put .place, length-append (g .sofar) rest, ap length (g .split)),
+    )
 
 -- one or the other
 pub over : {whole before now b : List ℕ} {from to : ℕ} {r : Rest} → Going whole before now b from to r

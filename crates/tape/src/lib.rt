@@ -204,13 +204,7 @@ fn mount_from(b: &[u8], cnv: &mut [u64], seq: &mut [u64]) -> MountOutcome
 }
 
 // Plays the first four records.
-pub fn open_tape(
-    b: &[u8],
-    cnv: &mut [u64],
-    seq: &mut [u64],
-    out: &mut [u8],
-    to: usize,
-) -> Turned
+pub fn open_tape(b: &[u8], cnv: &mut [u64], seq: &mut [u64], out: &mut [u8], to: usize) -> Turned
     requires { ⌜ to + lineRoom ≤ length (now out) ⌝ }
     ensures { λ r. ⌜ Takes (openTurn (now (b .entry)) (now (cnv .entry)) (now (seq .entry))) (now (out .entry)) (now (out .exit)) to r (now (cnv .exit)) (now (seq .exit)) ⌝ }
 {

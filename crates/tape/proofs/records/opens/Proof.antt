@@ -65,12 +65,13 @@ run-place-requires c κs = omega (arith, c .before .before .mount-place .ensures
 -- src/records.rt:126:1
 returns-5 : tie.Need-returns-5
 unfolding opens
-returns-5 c = let b = c .before .before .before .before .before .before .before .before .before .before .before .args .b .now in
-    (rw (c .run-place .ensures) (sym (simp (sym (c .before .before .before .before .before .before .before .before .before .stands .ensures .0) ∙ not-false _ (c .before .before .before .before .before .before .before .before .if1 .left), sym (c .before .before .before .before .before .before .before .stands2 .ensures .0) ∙ not-false _ (c .before .before .before .before .before .before .if2 .left), sym (c .before .before .before .before .before .stands3 .ensures .0) ∙ not-false _ (c .before .before .before .before .if3 .left), rw (c .before .before .before .mount-place .ensures .0) at (sym (c .before .before .stands4 .ensures .0) ∙ not-false _ (c .before .if4 .left))))),
-    λ e. record {
-      report = omega (arith, header (zoneCount b));
-      whole = leb-true (runPlace b) (length b) (rw (c .run-place .ensures) at e);
-    })
+returns-5 c = let b = c .before .before .before .before .before .before .before .before .before .before .before .args .b .now in (
+  rw (c .run-place .ensures) (sym (simp (sym (c .before .before .before .before .before .before .before .before .before .stands .ensures .0) ∙ not-false _ (c .before .before .before .before .before .before .before .before .if1 .left), sym (c .before .before .before .before .before .before .before .stands2 .ensures .0) ∙ not-false _ (c .before .before .before .before .before .before .if2 .left), sym (c .before .before .before .before .before .stands3 .ensures .0) ∙ not-false _ (c .before .before .before .before .if3 .left), rw (c .before .before .before .mount-place .ensures .0) at (sym (c .before .before .stands4 .ensures .0) ∙ not-false _ (c .before .if4 .left))))),
+  λ e. record {
+    report = omega (arith, header (zoneCount b));
+    whole = leb-true (runPlace b) (length b) (rw (c .run-place .ensures) at e);
+  },
+)
 
 pub opens-spec : {M : Type 1} → statement M
 opens-spec =
