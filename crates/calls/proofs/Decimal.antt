@@ -42,10 +42,10 @@ digits-enough (suc f) (suc g) n a b =
     (λ h. digits-one f n h ∙ sym (digits-one g n h))
     (λ h. digits-more f n h ∙ ap (λ (l : List ℕ). l ++ digitByte (n % 10) ∷ []) (digits-enough f g (n / 10) (omega arith) (omega arith)) ∙ sym (digits-more g n h))
 
-decimal-one : (d : ℕ) → d < 10 → decimal d ≡ digitByte d ∷ []
+pub decimal-one : (d : ℕ) → d < 10 → decimal d ≡ digitByte d ∷ []
 decimal-one d h = digits-one d d h
 
-decimal-more : (n d : ℕ) → 0 < n → d < 10 → decimal (n * 10 + d) ≡ decimal n ++ digitByte d ∷ []
+pub decimal-more : (n d : ℕ) → 0 < n → d < 10 → decimal (n * 10 + d) ≡ decimal n ++ digitByte d ∷ []
 decimal-more n d p h =
     let q : (n * 10 + d) / 10 ≡ n = omega arith in
     let r : (n * 10 + d) % 10 ≡ d = omega arith in

@@ -1,0 +1,51 @@
+-- What functions tell those that call them. No outcome is defined here.
+use Prim.Native.Nat.{ℕ, _+_, _≤_}
+use mathlib.Core.List.{List}
+use mathlib.Core.Path.{_≡_}
+use lib.ListN.{length}
+use Rattle.tape.specs.declared.records.Record.{Record}
+use Rattle.tape.specs.declared.records.Record.the-variants.{OnFile, Good, Failed, Broken}
+use Rattle.types.specs.declared.Mount.{Mount}
+use Rattle.types.specs.declared.MountOutcome.{MountOutcome}
+use Rattle.mount.specs.Mount.{Mounting}
+use Rattle.tape.specs.declared.Turned.{Turned}
+use Rattle.tape.specs.Records.{callBytes, goodBytes, failedBytes, opens, mountPlace, runPlace}
+use Rattle.tape.specs.Put.{Put}
+use Rattle.tape.specs.Tape.{State, Rest, Turn}
+
+-- the bytes of a record stand at its place
+abbrev pub Stands : Record → List ℕ → ℕ → Type 0
+Stands (OnFile kind number x) b at = at + callBytes ≤ length b
+Stands Good b at = at + goodBytes ≤ length b
+Stands Failed b at = at + failedBytes ≤ length b
+Stands Broken b at = Unit
+
+-- the first four records stand at the start
+pub record Opened (b : List ℕ) : Type 0 where
+  pub report : 4120 ≤ mountPlace b
+  pub whole : runPlace b ≤ length b
+
+-- no line is longer
+abbrev pub lineRoom : ℕ
+lineRoom = 96
+
+-- a mount value and both tables, as a state
+abbrev pub stateOf : Mount → List ℕ → List ℕ → State
+stateOf m cnv seq = record { mount = m; cnv = cnv; seq = seq }
+
+-- what a function handed back, with both tables as it left them
+abbrev pub restOf : Turned → List ℕ → List ℕ → Rest
+restOf r cnv seq = record { more = r .more; next = r .next; state = stateOf (r .mount) cnv seq }
+
+-- a function took a turn: it put its line at a place, and handed back the rest
+pub record Takes (t : Turn) (before after : List ℕ) (to : ℕ) (r : Turned) (cnv seq : List ℕ) : Type 0 where
+  pub line : Put before after to (r .to) (t .line)
+  pub rest : restOf r cnv seq ≡ t .rest
+  pub room : r .to ≤ to + lineRoom
+
+-- a function mounted: what it handed back, with both tables as it left them
+pub record Mounts (o : Mounting) (r : MountOutcome) (cnv seq : List ℕ) : Type 0 where
+  pub answer : r .answer ≡ o .answer
+  pub mount : r .mount ≡ o .mount
+  pub cnvs : cnv ≡ o .cnv
+  pub seqs : seq ≡ o .seq
