@@ -2,7 +2,7 @@
 -- Assumes nothing.
 use Prim.Native.Nat.{ℕ, _+_, _*_, _%_, _≤_, _<_}
 use native.Mathlib.Omega.{arith}
-use mathlib.Core.Path.{_≡_, refl, sym, _∙_, ap}
+use mathlib.Core.Path.{_≡_, refl, _∙_, ap}
 use mathlib.Core.Bool.{false}
 use mathlib.Core.List.{List}
 use borrow.Author.Tests.{le-ltb, eq-eqb, ne-eqb}
@@ -14,12 +14,10 @@ use Rattle.types.specs.declared.CommandKind.the-variants.{Write}
 use Rattle.types.specs.declared.FileKind.the-variants.{Sequential}
 use Rattle.types.specs.declared.Access.the-variants as access
 use Rattle.types.specs.declared.Answer.the-variants.{Issue}
-use Rattle.types.specs.declared.Outcome.{Outcome}
 use Rattle.types.specs.declared.Outstanding.the-variants.{Idle}
 use Rattle.types.specs.Mounts.{holding}
-use Rattle.calls.specs.Checks.{isWrite}
 use Rattle.calls.specs.Calls.{unwritable, misplaced, writeRow, settled, outcomeOf}
-use Rattle.calls.specs.Told.{Reached, Passed}
+use Rattle.calls.specs.Told.{Reached}
 use Rattle.calls.proofs.Laws.{reached-sound, passes, goes-on, call-passes}
 
 -- an append that the mount permits, on a sequential file that a call reaches

@@ -3,10 +3,9 @@
 use Prim.Native.Nat.{ℕ, _<_}
 use native.Mathlib.Omega.{arith}
 use mathlib.Core.Path.{_≡_, refl, sym, ap}
-use mathlib.Core.List.{List, [], _∷_, _++_}
-use lib.ListN.{length, getD}
+use mathlib.Core.List.{List, [], _∷_}
+use lib.ListN.{getD}
 use Rattle.types.specs.declared.Volume.{Volume}
-use Rattle.types.specs.declared.FileKind.{FileKind}
 use Rattle.types.specs.declared.FileKind.the-variants.{Sequential}
 use Rattle.calls.specs.declared.Name.the-variants.{Found, Nothing}
 use Rattle.calls.specs.Names.{decimal, digitsOf, nameOf, named}

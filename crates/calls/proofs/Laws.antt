@@ -2,8 +2,8 @@
 -- Assumes nothing.
 use Prim.Native.Nat.{ℕ, _+_, _/_, _%_, _^_, _≤_, _<_}
 use native.Mathlib.Omega.{arith}
-use mathlib.Core.Path.{_≡_, refl, sym, _∙_, ap}
-use mathlib.Core.Bool.{Bool, true, false, not, _&&_, _||_, cond, false≢true}
+use mathlib.Core.Path.{_≡_, refl, sym}
+use mathlib.Core.Bool.{Bool, true, false, not, _&&_, cond, false≢true}
 use mathlib.Core.List.{List}
 use lib.ListN.{length}
 use lib.Dec.{leb, ltb, eqb}
@@ -25,7 +25,7 @@ use Rattle.types.specs.declared.Answer.{Answer}
 use Rattle.types.specs.declared.Answer.the-variants.{Refused, Issue}
 use Rattle.types.specs.declared.Outstanding.{Outstanding}
 use Rattle.types.specs.declared.Outstanding.the-variants.{Idle, Busy}
-use Rattle.types.specs.Blocks.{sectorBytes, blockSectors, goodBlock, onBlock, wholeBlocks}
+use Rattle.types.specs.Blocks.{sectorBytes, blockSectors, goodBlock, onBlock}
 use Rattle.types.proofs.Tests.{both, and-left, and-right, means-in, means-out}
 use Rattle.types.proofs.Blocks.{IsBlock, small, large, is-block}
 use Rattle.table.specs.declared.Slot.{Slot}
@@ -35,7 +35,7 @@ use Rattle.calls.specs.declared.Lookup.{Lookup}
 use Rattle.calls.specs.declared.Lookup.the-variants as lookup
 use Rattle.calls.specs.declared.Checked.{Checked}
 use Rattle.calls.specs.declared.Checked.the-variants as checked
-use Rattle.calls.specs.Checks.{mostFiles, filesFit, countsFit, ofKind, filesOf, rowIn, lookupOf, means, isConventional, isReadOnly, isOffline, isNone, isWrite, placed, sized, allowed, full, soundRow, soundSlot, foundRow, fileOf, isBusy}
+use Rattle.calls.specs.Checks.{mostFiles, filesFit, countsFit, ofKind, filesOf, rowIn, lookupOf, means, isConventional, isReadOnly, isOffline, isNone, isWrite, full, soundRow, soundSlot, foundRow, fileOf, isBusy}
 use Rattle.calls.specs.Calls.{refuse, atOnce, answerOf, onFile, answered}
 use Rattle.calls.specs.Told.{Sound, Reached, Passed}
 

@@ -1,4 +1,3 @@
-use mathlib.Core.Path.{_≡_, _∙_, sym}
 use Rattle.calls.specs.Checks.{countsFit}
 use Rattle.calls.proofs.Laws.{counts-sector}
 use borrow.Author.Needs.{needs}

@@ -1,6 +1,4 @@
-use Rattle.types.specs.declared.FileKind.{FileKind}
-use Rattle.types.specs.declared.FileKind.the-variants.{Conventional, Sequential}
-use Rattle.calls.proofs.Naming.{four-same, four-differ, no-prefix}
+use Rattle.calls.proofs.Naming.{four-same, no-prefix}
 use Rattle.calls.proofs.names.kind_read.Statement.{statement}
 use Rattle.calls.proofs.names.kind_read.Tie as tie
 

@@ -1,4 +1,3 @@
-use mathlib.Core.Path.{_≡_}
 use Rattle.calls.proofs.Naming.{name-short, name-is, name-not-kind, name-not-number}
 use borrow.Author.Needs.{needs}
 use Rattle.calls.proofs.names.name_read.Statement.{statement}

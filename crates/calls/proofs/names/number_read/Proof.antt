@@ -2,7 +2,6 @@ use Prim.Native.Nat.{_-_}
 use native.Mathlib.Omega.{arith}
 use lib.ListN.{length, getD}
 use Rattle.calls.proofs.Decimal.{ReadTo, a-digit-tested, no-digit-tested, read-start, read-more, read-whole, not-digit, not-leading, not-large, not-empty}
-use borrow.Author.Needs.{needs}
 use Rattle.calls.proofs.names.number_read.Statement.{statement}
 use Rattle.calls.proofs.names.number_read.Tie as tie
 
