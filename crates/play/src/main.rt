@@ -252,7 +252,7 @@ fn play_file(fd: i32, name: &[u8]) {
 fn help(fd: i32) {
     io::write_all(
         fd,
-        b"play [FILE]: plays the tape in FILE, or from standard input, and writes a line for each of its records from MO on.\n",
+        b"usage: play [FILE]\nPlays the tape in FILE, or on standard input, and prints a line for each of its records from MO on.\n",
     );
 }
 

@@ -121,8 +121,8 @@ fn put_command(out: &mut [u8], at: usize, c: Command) -> usize
     ensures { λ r. ⌜ r ≤ at + 44 ⌝ }
 {
     let k = c.kind;
-    let next = put_pair(out, at, 32, letter_of(k));
-    put_two_fields(out, next, c.address, c.length)
+    let after = put_pair(out, at, 32, letter_of(k));
+    put_two_fields(out, after, c.address, c.length)
 }
 
 // An answer at once: `D` and the count.

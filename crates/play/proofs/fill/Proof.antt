@@ -4,9 +4,6 @@ use mathlib.Core.Path.{_≡_, refl, _∙_}
 use lib.ListN.{length}
 use Rattle.play.proofs.fill.Statement.{statement}
 use Rattle.play.proofs.fill.Tie as tie
-use Rattle.play.proofs.fill.Reads as reads
-use Rattle.play.proofs.fill.Lts as lts
-use Rattle.play.proofs.read_once.Reads as read-once-reads
 
 abbrev Inv-loop : tie.InvT-loop
 Inv-loop fd name b₀ have input₀ reads₀ b input reads = (length b ≡ length b₀) × (input .have ≤ length b₀)
@@ -14,39 +11,30 @@ Inv-loop fd name b₀ have input₀ reads₀ b input reads = (length b ≡ lengt
 abbrev μ-loop : tie.MeasureT-loop
 μ-loop fd name b₀ have input₀ reads₀ b input reads = reads
 
--- src/main.rt:61:5
 loop-holds : tie.Need-loop-holds Inv-loop μ-loop
 loop-holds c = (refl, c .before .before .pre)
 
--- src/main.rt:63:13
 same-length : tie.Need-same-length Inv-loop μ-loop
 same-length c = c .before .before .before .before .loop .inv .0
 
--- src/main.rt:63:13
 returns : tie.Need-returns Inv-loop μ-loop
 returns c = c .before .before .before .before .loop .inv .1
 
--- src/main.rt:65:9
 read-once-requires : tie.Need-read-once-requires Inv-loop μ-loop
 read-once-requires c κs = omega arith
 
--- src/main.rt:66:9
 sub-reads : tie.Need-sub-reads Inv-loop μ-loop
 sub-reads c = omega arith
 
--- src/main.rt:61:5
 loop-less : tie.Need-loop-less Inv-loop μ-loop
 loop-less c = omega arith
 
--- src/main.rt:61:5
 loop-again : tie.Need-loop-again Inv-loop μ-loop
 loop-again c = (c .before .before .read-once .kept .1 .1 .0 ∙ c .before .before .before .before .before .before .before .before .loop .inv .0, omega (arith, c .before .before .read-once .ensures, c .before .before .before .before .before .before .before .before .loop .inv .0))
 
--- src/main.rt:51:1
 same-length-2 : tie.Need-same-length-2 Inv-loop μ-loop
 same-length-2 c = c .before .loop .inv .0
 
--- src/main.rt:51:1
 returns-2 : tie.Need-returns-2 Inv-loop μ-loop
 returns-2 c = c .before .loop .inv .1
 

@@ -5,10 +5,6 @@ use lib.ListN.{length}
 use borrow.Author.Tests.{not-false}
 use Rattle.play.proofs.play_block.Statement.{statement}
 use Rattle.play.proofs.play_block.Tie as tie
-use Rattle.play.proofs.play_block.Reads as reads
-use Rattle.play.proofs.play_block.Lts as lts
-use Rattle.play.proofs.is_ready.Reads as is-ready-reads
-use Rattle.tape.proofs.take_turn.Reads as take-turn-reads
 
 abbrev Inv-loop : tie.InvT-loop
 Inv-loop b ended cnv₀ seq₀ out₀ t₀ records₀ cnv seq out t records =
@@ -17,61 +13,47 @@ Inv-loop b ended cnv₀ seq₀ out₀ t₀ records₀ cnv seq out t records =
 abbrev μ-loop : tie.MeasureT-loop
 μ-loop b ended cnv₀ seq₀ out₀ t₀ records₀ cnv seq out t records = records
 
--- src/main.rt:96:5
 loop-holds : tie.Need-loop-holds Inv-loop μ-loop
 loop-holds c = (refl, refl, refl, c .before .before .before .before .pre)
 
--- src/main.rt:97:13
 is-ready-requires : tie.Need-is-ready-requires Inv-loop μ-loop
 is-ready-requires c κs = tt
 
--- src/main.rt:98:13
 same-length : tie.Need-same-length Inv-loop μ-loop
 same-length c = c .before .before .before .loop .inv .0
 
--- src/main.rt:98:13
 same-length-2 : tie.Need-same-length-2 Inv-loop μ-loop
 same-length-2 c = c .before .before .before .loop .inv .1
 
--- src/main.rt:98:13
 same-length-3 : tie.Need-same-length-3 Inv-loop μ-loop
 same-length-3 c = c .before .before .before .loop .inv .2
 
--- src/main.rt:98:13
 returns : tie.Need-returns Inv-loop μ-loop
 returns c = c .before .before .before .loop .inv .3
 
--- src/main.rt:100:9
 take-turn-requires : tie.Need-take-turn-requires Inv-loop μ-loop
 take-turn-requires c κs = c .before .before .before .before .is-ready .ensures (not-false _ (c .before .before .before .if1 .left))
 
--- src/main.rt:101:9
 sub-records : tie.Need-sub-records Inv-loop μ-loop
 sub-records c = omega arith
 
--- src/main.rt:96:5
 loop-less : tie.Need-loop-less Inv-loop μ-loop
 loop-less c = omega arith
 
--- src/main.rt:96:5
 loop-again : tie.Need-loop-again Inv-loop μ-loop
 loop-again c = let k = c .before .before .before .before .before .before .take-turn .kept .1 .1 .1 in
     let i = c .before .before .before .before .before .before .before .before .before .before .before .before .before .loop .inv in
     (k .0 ∙ i .0, k .1 .0 ∙ i .1, k .1 .1 .0 ∙ i .2, omega (arith, c .before .before .before .before .before .before .take-turn .ensures .room, c .before .before .before .before .before .before .before .before .before .before .before .is-ready .ensures (not-false _ (c .before .before .before .before .before .before .before .before .before .before .if1 .left)), i .2))
 
--- src/main.rt:83:1
 same-length-4 : tie.Need-same-length-4 Inv-loop μ-loop
 same-length-4 c = c .before .loop .inv .0
 
--- src/main.rt:83:1
 same-length-5 : tie.Need-same-length-5 Inv-loop μ-loop
 same-length-5 c = c .before .loop .inv .1
 
--- src/main.rt:83:1
 same-length-6 : tie.Need-same-length-6 Inv-loop μ-loop
 same-length-6 c = c .before .loop .inv .2
 
--- src/main.rt:83:1
 returns-2 : tie.Need-returns-2 Inv-loop μ-loop
 returns-2 c = c .before .loop .inv .3
 

@@ -4,69 +4,49 @@ use lib.Seq.{length-take-le}
 use borrow.Author.Needs.{needs}
 use Rattle.play.proofs.play_file.Statement.{statement}
 use Rattle.play.proofs.play_file.Tie as tie
-use Rattle.play.proofs.play_file.Reads as reads
-use Rattle.play.proofs.play_file.Lts as lts
-use Rattle.play.proofs.fill.Reads as fill-reads
-use Rattle.play.proofs.play_on.Reads as play-on-reads
-use Rattle.tape.proofs.open_tape.Reads as open-tape-reads
 
--- src/main.rt:241:32
 slice-aggregate-fill : tie.Need-slice-aggregate-fill
 slice-aggregate-fill c = search needs
 
--- src/main.rt:241:9
 fill-requires : tie.Need-fill-requires
 fill-requires c κs = search needs
 
--- src/main.rt:243:9
 returns : tie.Need-returns
 returns c = search needs
 
--- src/main.rt:246:34
 array-share-prefix-b : tie.Need-array-share-prefix-b
 array-share-prefix-b c = search needs
 
--- src/main.rt:246:34
 slice-aggregate-open-tape : tie.Need-slice-aggregate-open-tape
 slice-aggregate-open-tape c = sym (length-take-le _ _ (omega (arith, c .before .before .before .fill .ensures, c .before .before .before .fill .kept .1 .1 .0)))
 
--- src/main.rt:246:46
 slice-aggregate-open-tape-2 : tie.Need-slice-aggregate-open-tape-2
 slice-aggregate-open-tape-2 c = search needs
 
--- src/main.rt:246:56
 slice-aggregate-open-tape-3 : tie.Need-slice-aggregate-open-tape-3
 slice-aggregate-open-tape-3 c = search needs
 
--- src/main.rt:246:66
 slice-aggregate-open-tape-4 : tie.Need-slice-aggregate-open-tape-4
 slice-aggregate-open-tape-4 c = search needs
 
--- src/main.rt:246:9
 open-tape-requires : tie.Need-open-tape-requires
 open-tape-requires c κs = search needs
 
--- src/main.rt:253:26
 slice-aggregate-play-on : tie.Need-slice-aggregate-play-on
 slice-aggregate-play-on c = search needs
 
--- src/main.rt:253:34
 slice-aggregate-play-on-2 : tie.Need-slice-aggregate-play-on-2
 slice-aggregate-play-on-2 c = search needs
 
--- src/main.rt:253:44
 slice-aggregate-play-on-3 : tie.Need-slice-aggregate-play-on-3
 slice-aggregate-play-on-3 c = search needs
 
--- src/main.rt:253:54
 slice-aggregate-play-on-4 : tie.Need-slice-aggregate-play-on-4
 slice-aggregate-play-on-4 c = search needs
 
--- src/main.rt:253:5
 play-on-requires : tie.Need-play-on-requires
 play-on-requires c κs = (omega (arith, c .before .before .before .before .before .before .before .before .before .before .before .before .before .before .before .fill .ensures, c .before .before .before .before .before .before .before .before .before .before .before .before .before .before .before .fill .kept .1 .1 .0), omega (arith, c .before .before .before .before .before .before .before .before .open-tape .ensures .room, c .before .before .before .before .before .before .before .before .open-tape .kept .1 .1 .1 .0))
 
--- src/main.rt:236:1
 returns-2 : tie.Need-returns-2
 returns-2 c = search needs
 

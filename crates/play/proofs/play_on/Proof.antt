@@ -4,9 +4,6 @@ use mathlib.Core.Path.{_≡_, refl, _∙_}
 use lib.ListN.{length}
 use Rattle.play.proofs.play_on.Statement.{statement}
 use Rattle.play.proofs.play_on.Tie as tie
-use Rattle.play.proofs.play_on.Reads as reads
-use Rattle.play.proofs.play_on.Lts as lts
-use Rattle.play.proofs.play_some.Reads as play-some-reads
 
 abbrev Inv-loop : tie.InvT-loop
 Inv-loop fd name b₀ cnv₀ seq₀ out₀ p₀ turns₀ b cnv seq out p turns =
@@ -16,65 +13,50 @@ Inv-loop fd name b₀ cnv₀ seq₀ out₀ p₀ turns₀ b cnv seq out p turns =
 abbrev μ-loop : tie.MeasureT-loop
 μ-loop fd name b₀ cnv₀ seq₀ out₀ p₀ turns₀ b cnv seq out p turns = turns
 
--- src/main.rt:226:5
 loop-holds : tie.Need-loop-holds Inv-loop μ-loop
 loop-holds c = (refl, refl, refl, refl, c .before .before .before .before .before .pre .0, c .before .before .before .before .before .pre .1)
 
--- src/main.rt:228:13
 same-length : tie.Need-same-length Inv-loop μ-loop
 same-length c = c .before .before .before .loop .inv .0
 
--- src/main.rt:228:13
 same-length-2 : tie.Need-same-length-2 Inv-loop μ-loop
 same-length-2 c = c .before .before .before .loop .inv .1
 
--- src/main.rt:228:13
 same-length-3 : tie.Need-same-length-3 Inv-loop μ-loop
 same-length-3 c = c .before .before .before .loop .inv .2
 
--- src/main.rt:228:13
 same-length-4 : tie.Need-same-length-4 Inv-loop μ-loop
 same-length-4 c = c .before .before .before .loop .inv .3
 
--- src/main.rt:228:13
 returns : tie.Need-returns Inv-loop μ-loop
 returns c = tt
 
--- src/main.rt:230:9
 play-some-requires : tie.Need-play-some-requires Inv-loop μ-loop
 play-some-requires c κs = let i = c .before .before .before .before .before .before .before .loop .inv in (omega (arith, i .0, i .4), omega (arith, i .3, i .5))
 
--- src/main.rt:231:9
 sub-turns : tie.Need-sub-turns Inv-loop μ-loop
 sub-turns c = omega arith
 
--- src/main.rt:226:5
 loop-less : tie.Need-loop-less Inv-loop μ-loop
 loop-less c = omega arith
 
--- src/main.rt:226:5
 loop-again : tie.Need-loop-again Inv-loop μ-loop
 loop-again c = let k = c .before .before .before .before .before .before .before .before .play-some .kept .1 .1 .1 in
     let i = c .before .before .before .before .before .before .before .before .before .before .before .before .before .before .before .before .loop .inv in
     (k .0 ∙ i .0, k .1 .0 ∙ i .1, k .1 .1 .0 ∙ i .2, k .1 .1 .1 .0 ∙ i .3, omega (arith, i .0, c .before .before .before .before .before .before .before .before .play-some .ensures .0), omega (arith, c .before .before .before .before .before .before .before .before .play-some .ensures .1))
 
--- src/main.rt:213:1
 same-length-5 : tie.Need-same-length-5 Inv-loop μ-loop
 same-length-5 c = c .before .loop .inv .0
 
--- src/main.rt:213:1
 same-length-6 : tie.Need-same-length-6 Inv-loop μ-loop
 same-length-6 c = c .before .loop .inv .1
 
--- src/main.rt:213:1
 same-length-7 : tie.Need-same-length-7 Inv-loop μ-loop
 same-length-7 c = c .before .loop .inv .2
 
--- src/main.rt:213:1
 same-length-8 : tie.Need-same-length-8 Inv-loop μ-loop
 same-length-8 c = c .before .loop .inv .3
 
--- src/main.rt:213:1
 returns-2 : tie.Need-returns-2 Inv-loop μ-loop
 returns-2 c = tt
 

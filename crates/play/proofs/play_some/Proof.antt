@@ -4,96 +4,67 @@ use lib.Seq.{length-take-le}
 use borrow.Author.Needs.{needs}
 use Rattle.play.proofs.play_some.Statement.{statement}
 use Rattle.play.proofs.play_some.Tie as tie
-use Rattle.play.proofs.play_some.Reads as reads
-use Rattle.play.proofs.play_some.Lts as lts
-use Rattle.io.proofs.write_all.Reads as write-all-reads
-use Rattle.os.proofs.fail.Reads as fail-reads
-use Rattle.play.proofs.is_low.Reads as is-low-reads
-use Rattle.play.proofs.play_block.Reads as play-block-reads
-use Rattle.play.proofs.refill.Reads as refill-reads
-use Rattle.play.proofs.written.Reads as written-reads
 
--- src/main.rt:192:24
 slice-reshare-prefix-play-block : tie.Need-slice-reshare-prefix-play-block
 slice-reshare-prefix-play-block c = search needs
 
--- src/main.rt:192:24
 slice-aggregate-play-block : tie.Need-slice-aggregate-play-block
 slice-aggregate-play-block c = sym (length-take-le _ _ (c .before .before .before .before .before .before .before .pre .0))
 
--- src/main.rt:192:9
 play-block-requires : tie.Need-play-block-requires
 play-block-requires c κs = search needs
 
--- src/main.rt:195:51
 slice-reshare-prefix-write-all : tie.Need-slice-reshare-prefix-write-all
 slice-reshare-prefix-write-all c = search needs
 
--- src/main.rt:195:51
 slice-aggregate-write-all : tie.Need-slice-aggregate-write-all
 slice-aggregate-write-all c = sym (length-take-le _ _ (omega (arith, c .before .before .before .before .before .before .before .play-block .ensures, c .before .before .before .before .before .before .before .play-block .kept .1 .1 .1 .1 .1 .0)))
 
--- src/main.rt:195:9
 write-all-requires : tie.Need-write-all-requires
 write-all-requires c κs = search needs
 
--- src/main.rt:197:18
 slice-aggregate-fail : tie.Need-slice-aggregate-fail
 slice-aggregate-fail c = search needs
 
--- src/main.rt:197:9
 fail-requires : tie.Need-fail-requires
 fail-requires c κs = search needs
 
--- src/main.rt:199:9
 written-requires : tie.Need-written-requires
 written-requires c κs = search needs
 
--- src/main.rt:200:39
 is-low-requires : tie.Need-is-low-requires
 is-low-requires c κs = search needs
 
--- src/main.rt:201:9
 refill-requires : tie.Need-refill-requires
 refill-requires c κs = (c .before .before .before .before .before .before .before .before .before .before .before .before .before .before .before .before .before .before .before .before .before .before .before .before .before .pre .0, c .before .before .before .before .written .ensures)
 
--- src/main.rt:201:9
 same-length : tie.Need-same-length
 same-length c = search needs
 
--- src/main.rt:201:9
 same-length-2 : tie.Need-same-length-2
 same-length-2 c = c .before .before .before .before .before .before .before .before .before .before .before .before .before .before .before .before .before .play-block .kept .1 .1 .1 .0
 
--- src/main.rt:201:9
 same-length-3 : tie.Need-same-length-3
 same-length-3 c = search needs
 
--- src/main.rt:201:9
 same-length-4 : tie.Need-same-length-4
 same-length-4 c = search needs
 
--- src/main.rt:201:9
 returns : tie.Need-returns
 returns c = search needs
 
--- src/main.rt:177:1
 same-length-5 : tie.Need-same-length-5
 same-length-5 c = search needs
 
--- src/main.rt:177:1
 same-length-6 : tie.Need-same-length-6
 same-length-6 c = search needs
 
--- src/main.rt:177:1
 same-length-7 : tie.Need-same-length-7
 same-length-7 c = search needs
 
--- src/main.rt:177:1
 same-length-8 : tie.Need-same-length-8
 same-length-8 c = search needs
 
--- src/main.rt:177:1
 returns-2 : tie.Need-returns-2
 returns-2 c = (c .before .before .before .before .before .before .before .before .before .before .before .before .before .before .before .before .before .before .before .before .before .before .before .before .before .pre .0, c .before .before .before .before .written .ensures)
 

@@ -1,58 +1,40 @@
 use borrow.Author.Needs.{needs}
 use Rattle.tape.proofs.call.Statement.{statement}
 use Rattle.tape.proofs.call.Tie as tie
-use Rattle.tape.proofs.call.Reads as reads
-use Rattle.tape.proofs.call.Lts as lts
-use Rattle.calls.proofs.flush.Reads as flush-reads
-use Rattle.calls.proofs.read.Reads as read-reads
-use Rattle.calls.proofs.truncate.Reads as truncate-reads
-use Rattle.calls.proofs.write.Reads as write-reads
 
--- src/lib.rt:46:20
 enum-known-x : tie.Need-enum-known-x
 enum-known-x c = search needs
 
--- src/lib.rt:46:39
 read-requires : tie.Need-read-requires
 read-requires c κs = search needs
 
--- src/lib.rt:47:21
 enum-known-x-2 : tie.Need-enum-known-x-2
 enum-known-x-2 c = search needs
 
--- src/lib.rt:47:40
 write-requires : tie.Need-write-requires
 write-requires c κs = search needs
 
--- src/lib.rt:48:24
 enum-known-x-3 : tie.Need-enum-known-x-3
 enum-known-x-3 c = search needs
 
--- src/lib.rt:48:33
 truncate-requires : tie.Need-truncate-requires
 truncate-requires c κs = search needs
 
--- src/lib.rt:49:24
 enum-told : tie.Need-enum-told
 enum-told c = search needs
 
--- src/lib.rt:49:24
 flush-requires : tie.Need-flush-requires
 flush-requires c κs = search needs
 
--- src/lib.rt:42:1
 returns : tie.Need-returns
 returns c = rw (c .before .before .x .given .1) (c .read .ensures)
 
--- src/lib.rt:42:1
 returns-2 : tie.Need-returns-2
 returns-2 c = rw (c .before .before .x2 .given .1) (c .write .ensures)
 
--- src/lib.rt:42:1
 returns-3 : tie.Need-returns-3
 returns-3 c = rw (c .before .before .x3 .given .1) (c .truncate .ensures)
 
--- src/lib.rt:42:1
 returns-4 : tie.Need-returns-4
 returns-4 c = rw (c .before .enum-told .given .1) (c .flush .ensures)
 

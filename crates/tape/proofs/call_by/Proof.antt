@@ -3,29 +3,21 @@ use Rattle.tape.specs.Tape.{called}
 use borrow.Author.Needs.{needs}
 use Rattle.tape.proofs.call_by.Statement.{statement}
 use Rattle.tape.proofs.call_by.Tie as tie
-use Rattle.tape.proofs.call_by.Reads as reads
-use Rattle.tape.proofs.call_by.Lts as lts
-use Rattle.tape.proofs.call.Reads as call-reads
 
--- src/lib.rt:58:9
 call-requires : tie.Need-call-requires
 call-requires c κs = search needs
 
--- src/lib.rt:58:9
 returns : tie.Need-returns
 unfolding called
 returns c = rw (eq-eqb _ _ (c .before .if1 .taken)) (c .call .ensures)
 
--- src/lib.rt:61:9
 call-requires-2 : tie.Need-call-requires-2
 call-requires-2 c κs = search needs
 
--- src/lib.rt:54:1
 returns-2 : tie.Need-returns-2
 unfolding called
 returns-2 c = rw (ne-eqb _ _ (c .before .before .if1 .left), eq-eqb _ _ (c .before .if2 .taken)) (c .call2 .ensures)
 
--- src/lib.rt:54:1
 returns-3 : tie.Need-returns-3
 unfolding called
 returns-3 c = rw (ne-eqb _ _ (c .before .if1 .left), ne-eqb _ _ (c .if2 .left))

@@ -2,24 +2,16 @@ use mathlib.Core.Path.{ap}
 use borrow.Author.Needs.{needs}
 use Rattle.tape.proofs.call_turn.Statement.{statement}
 use Rattle.tape.proofs.call_turn.Tie as tie
-use Rattle.tape.proofs.call_turn.Reads as reads
-use Rattle.tape.proofs.call_turn.Lts as lts
-use Rattle.tape.proofs.call_by.Reads as call-by-reads
-use Rattle.tape.proofs.lines.put_call_line.Reads as put-call-line-reads
 
--- src/lib.rt:85:9
 call-by-requires : tie.Need-call-by-requires
 call-by-requires c κs = search needs
 
--- src/lib.rt:88:9
 put-call-line-requires : tie.Need-put-call-line-requires
 put-call-line-requires c κs = search needs
 
--- src/lib.rt:71:1
 same-length : tie.Need-same-length
 same-length c = search needs
 
--- src/lib.rt:71:1
 returns : tie.Need-returns
 returns c = record { line = rw (← c .before .before .before .before .before .call-by .ensures) (c .before .before .put-call-line .ensures .0); rest = cc (c .before .before .before .before .before .call-by .ensures); room = c .before .before .put-call-line .ensures .1 }
 

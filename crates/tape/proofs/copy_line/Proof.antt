@@ -8,9 +8,6 @@ use mathlib.Core.List.{List}
 use Rattle.tape.proofs.Stores.{copied}
 use Rattle.tape.proofs.copy_line.Statement.{statement}
 use Rattle.tape.proofs.copy_line.Tie as tie
-use Rattle.tape.proofs.copy_line.Reads as reads
-use Rattle.tape.proofs.copy_line.Lts as lts
-use Rattle.tape.proofs.put_if_room.Reads as put-if-room-reads
 
 abbrev Inv-loop : tie.InvT-loop
 Inv-loop out₀ to line n i₀ out i = (i ≤ n) × (out ≡ sets out₀ to (take i line))
@@ -18,43 +15,33 @@ Inv-loop out₀ to line n i₀ out i = (i ≤ n) × (out ≡ sets out₀ to (tak
 abbrev μ-loop : tie.MeasureT-loop
 μ-loop out₀ to line n i₀ out i = n - i
 
--- src/lib.rt:247:5
 loop-holds : tie.Need-loop-holds Inv-loop μ-loop
 loop-holds c = (omega arith, refl)
 
--- src/lib.rt:248:26
 add-put-if-room : tie.Need-add-put-if-room Inv-loop μ-loop
 add-put-if-room c = omega arith
 
--- src/lib.rt:248:34
 shared-slice-read-put-if-room : tie.Need-shared-slice-read-put-if-room Inv-loop μ-loop
 shared-slice-read-put-if-room c = omega arith
 
--- src/lib.rt:248:9
 put-if-room-requires : tie.Need-put-if-room-requires Inv-loop μ-loop
 put-if-room-requires c κs = tt
 
--- src/lib.rt:247:9
 add-i : tie.Need-add-i Inv-loop μ-loop
 add-i c = omega arith
 
--- src/lib.rt:247:5
 loop-less : tie.Need-loop-less Inv-loop μ-loop
 loop-less c = omega arith
 
--- src/lib.rt:247:5
 loop-again : tie.Need-loop-again Inv-loop μ-loop
 loop-again c = (omega arith, c .before .before .put-if-room .ensures ∙ ap (λ (l : List ℕ). set l (c .before .before .before .before .before .before .before .before .before .args .to + c .before .before .before .before .before .before .loop .i) (getD (c .before .before .before .before .before .before .before .before .before .args .line .now) (c .before .before .before .before .before .before .loop .i) 0)) (c .before .before .before .before .before .before .loop .inv .1) ∙ copied (c .before .before .before .before .before .before .before .before .before .args .out .now) (c .before .before .before .before .before .before .before .before .before .args .line .now) (c .before .before .before .before .before .before .before .before .before .args .to) (c .before .before .before .before .before .before .loop .i) (omega arith))
 
--- src/lib.rt:250:5
 add-result : tie.Need-add-result Inv-loop μ-loop
 add-result c = omega arith
 
--- src/lib.rt:243:1
 same-length : tie.Need-same-length Inv-loop μ-loop
 same-length c = ap length (c .before .loop .inv .1) ∙ length-sets (c .before .before .before .before .args .out .now) (c .before .before .before .before .args .to) (take (c .before .loop .i) (c .before .before .before .before .args .line .now))
 
--- src/lib.rt:243:1
 returns : tie.Need-returns Inv-loop μ-loop
 returns c = let e : c .before .loop .i ≡ c .before .before .before .before .args .n = omega arith in record { bytes = rw e at (c .before .loop .inv .1); place = omega (arith, length-take-le (c .before .before .before .before .args .n) (c .before .before .before .before .args .line .now) (c .before .before .before .before .pre .0)) }
 

@@ -4,82 +4,58 @@ use Rattle.tape.proofs.Opening.{lent}
 use borrow.Author.Needs.{needs}
 use Rattle.tape.proofs.mount_from.Statement.{statement}
 use Rattle.tape.proofs.mount_from.Tie as tie
-use Rattle.tape.proofs.mount_from.Reads as reads
-use Rattle.tape.proofs.mount_from.Lts as lts
-use Rattle.mount.proofs.mount.Reads as mount-reads
-use Rattle.tape.proofs.records.mount_place.Reads as mount-place-reads
-use Rattle.tape.proofs.records.run_place.Reads as run-place-reads
-use Rattle.wire.proofs.u16_at.Reads as u16-at-reads
 
--- src/lib.rt:192:9
 u16-at-requires : tie.Need-u16-at-requires
 u16-at-requires c κs = search needs
 
--- src/lib.rt:193:9
 mount-place-requires : tie.Need-mount-place-requires
 mount-place-requires c κs = search needs
 
--- src/lib.rt:194:19
 add-options : tie.Need-add-options
 add-options c = search needs
 
--- src/lib.rt:195:9
 run-place-requires : tie.Need-run-place-requires
 run-place-requires c κs = search needs
 
--- src/lib.rt:197:9
 cast-mount : tie.Need-cast-mount
 cast-mount c = search needs
 
--- src/lib.rt:198:9
 sub-mount : tie.Need-sub-mount
 sub-mount c = search needs
 
--- src/lib.rt:198:9
 part-mount-start : tie.Need-part-mount-start
 part-mount-start c = search needs
 
--- src/lib.rt:198:9
 part-mount-end : tie.Need-part-mount-end
 part-mount-end c = search needs
 
--- src/lib.rt:199:9
 sub-mount-2 : tie.Need-sub-mount-2
 sub-mount-2 c = search needs
 
--- src/lib.rt:199:9
 part-mount-start-2 : tie.Need-part-mount-start-2
 part-mount-start-2 c = search needs
 
--- src/lib.rt:199:9
 part-mount-end-2 : tie.Need-part-mount-end-2
 part-mount-end-2 c = search needs
 
--- src/lib.rt:200:9
 sub-mount-3 : tie.Need-sub-mount-3
 sub-mount-3 c = search needs
 
--- src/lib.rt:200:9
 part-mount-start-3 : tie.Need-part-mount-start-3
 part-mount-start-3 c = search needs
 
--- src/lib.rt:200:9
 part-mount-end-3 : tie.Need-part-mount-end-3
 part-mount-end-3 c = search needs
 
--- src/lib.rt:196:5
 mount-requires : tie.Need-mount-requires
 mount-requires c κs = search needs
 
--- src/lib.rt:188:1
 same-length : tie.Need-same-length
 same-length c = search needs
 
--- src/lib.rt:188:1
 same-length-2 : tie.Need-same-length-2
 same-length-2 c = search needs
 
--- src/lib.rt:188:1
 returns : tie.Need-returns
 returns c = let e = lent (c .before .before .before .before .before .before .before .before .before .before .before .before .before .before .before .before .args .b .now) (c .before .before .before .before .before .before .before .before .before .before .before .before .before .before .before .before .args .cnv .now) (c .before .before .before .before .before .before .before .before .before .before .before .before .before .before .before .before .args .seq .now) _ _ _ (c .before .before .before .before .before .before .before .before .before .before .before .before .u16-at .ensures) (c .before .before .before .before .before .before .before .before .before .before .before .mount-place .ensures .0) (c .before .before .before .before .before .before .before .before .before .before .run-place .ensures) in
     record {

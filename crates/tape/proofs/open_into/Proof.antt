@@ -3,40 +3,28 @@ use Rattle.tape.proofs.Turns.{copied-turn}
 use borrow.Author.Needs.{needs}
 use Rattle.tape.proofs.open_into.Statement.{statement}
 use Rattle.tape.proofs.open_into.Tie as tie
-use Rattle.tape.proofs.open_into.Reads as reads
-use Rattle.tape.proofs.open_into.Lts as lts
-use Rattle.tape.proofs.copy_line.Reads as copy-line-reads
-use Rattle.tape.proofs.open_tape.Reads as open-tape-reads
 
--- src/lib.rt:283:36
 slice-aggregate-open-tape : tie.Need-slice-aggregate-open-tape
 slice-aggregate-open-tape c = search needs
 
--- src/lib.rt:283:9
 open-tape-requires : tie.Need-open-tape-requires
 open-tape-requires c κs = search needs
 
--- src/lib.rt:284:33
 slice-aggregate-copy-line : tie.Need-slice-aggregate-copy-line
 slice-aggregate-copy-line c = search needs
 
--- src/lib.rt:284:9
 copy-line-requires : tie.Need-copy-line-requires
 copy-line-requires c κs = search needs
 
--- src/lib.rt:279:1
 same-length : tie.Need-same-length
 same-length c = search needs
 
--- src/lib.rt:279:1
 same-length-2 : tie.Need-same-length-2
 same-length-2 c = search needs
 
--- src/lib.rt:279:1
 same-length-3 : tie.Need-same-length-3
 same-length-3 c = search needs
 
--- src/lib.rt:279:1
 returns : tie.Need-returns
 returns c = copied-turn (c .before .before .before .before .before .before .before .before .before .before .before .open-tape .ensures) (omega arith) (c .before .before .before .copy-line .ensures)
 

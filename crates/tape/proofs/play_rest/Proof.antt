@@ -10,9 +10,6 @@ use Rattle.tape.specs.Told.{restOf}
 use Rattle.tape.proofs.Playing.{left, less, Going, begin, again, over}
 use Rattle.tape.proofs.play_rest.Statement.{statement}
 use Rattle.tape.proofs.play_rest.Tie as tie
-use Rattle.tape.proofs.play_rest.Reads as reads
-use Rattle.tape.proofs.play_rest.Lts as lts
-use Rattle.tape.proofs.turn_into.Reads as turn-into-reads
 
 abbrev Inv-loop : tie.InvT-loop
 Inv-loop b cnv₀ seq₀ out₀ t₀ cnv seq out t =
@@ -22,40 +19,32 @@ Inv-loop b cnv₀ seq₀ out₀ t₀ cnv seq out t =
 abbrev μ-loop : tie.MeasureT-loop
 μ-loop b cnv₀ seq₀ out₀ t₀ cnv seq out t = left b (restOf t cnv seq)
 
--- src/lib.rt:299:5
 loop-holds : tie.Need-loop-holds Inv-loop μ-loop
 loop-holds c = (refl, refl, refl, begin (c .before .before .before .before .args .out .now) (c .before .before .before .before .args .b .now) (c .before .before .before .before .args .t .to) (restOf (c .before .before .before .before .args .t) (c .before .before .before .before .args .cnv .now) (c .before .before .before .before .args .seq .now)))
 
--- src/lib.rt:300:9
 turn-into-requires : tie.Need-turn-into-requires Inv-loop μ-loop
 turn-into-requires c κs = let r = restOf (c .before .before .before .before .before .before .before .loop .t) (c .before .before .before .before .before .before .before .loop .cnv) (c .before .before .before .before .before .before .before .loop .seq) in
     leb-true (c .before .before .before .before .before .before .before .loop .t .to) (length (c .before .before .before .before .before .before .before .loop .out)) (and-right (goesFurther (c .before .before .before .before .before .before .before .before .before .before .before .before .args .b .now) r) _ (c .before .before .before .if1 .taken))
 
--- src/lib.rt:299:5
 loop-less : tie.Need-loop-less Inv-loop μ-loop
 loop-less c = let b = c .before .before .before .before .before .before .before .before .before .before .before .before .before .before .before .before .before .before .before .args .b .now in
     let r = restOf (c .before .before .before .before .before .before .before .before .before .before .before .before .before .before .loop .t) (c .before .before .before .before .before .before .before .before .before .before .before .before .before .before .loop .cnv) (c .before .before .before .before .before .before .before .before .before .before .before .before .before .before .loop .seq) in
     subst (λ (x : Rest). left b x < left b r) (sym (c .before .before .before .before .before .before .turn-into .ensures .rest)) (less b r (and-left _ _ (c .before .before .before .before .before .before .before .before .before .before .if1 .taken)))
 
--- src/lib.rt:299:5
 loop-again : tie.Need-loop-again Inv-loop μ-loop
 loop-again c = let k = c .before .before .before .before .before .before .turn-into .kept .1 .1 .1 in
     let i = c .before .before .before .before .before .before .before .before .before .before .before .before .before .before .loop .inv in
     (k .0 ∙ i .0, k .1 .0 ∙ i .1, k .1 .1 .0 ∙ i .2, again (c .before .before .before .before .before .before .turn-into .result) (i .3) (and-left _ _ (c .before .before .before .before .before .before .before .before .before .before .if1 .taken)) (c .before .before .before .before .before .before .turn-into .ensures))
 
--- src/lib.rt:295:1
 same-length : tie.Need-same-length Inv-loop μ-loop
 same-length c = c .before .before .before .before .loop .inv .0
 
--- src/lib.rt:295:1
 same-length-2 : tie.Need-same-length-2 Inv-loop μ-loop
 same-length-2 c = c .before .before .before .before .loop .inv .1
 
--- src/lib.rt:295:1
 same-length-3 : tie.Need-same-length-3 Inv-loop μ-loop
 same-length-3 c = c .before .before .before .before .loop .inv .2
 
--- src/lib.rt:295:1
 returns : tie.Need-returns Inv-loop μ-loop
 returns c = let r = restOf (c .before .before .before .before .loop .t) (c .before .before .before .before .loop .cnv) (c .before .before .before .before .loop .seq) in
     over (c .before .before .before .before .loop .inv .3) (subst (λ (n : ℕ). goesFurther (c .before .before .before .before .before .before .before .before .before .args .b .now) r && leb (c .before .before .before .before .loop .t .to) n ≡ false) (c .before .before .before .before .loop .inv .2) (c .if1 .left))

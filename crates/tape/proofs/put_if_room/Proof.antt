@@ -3,22 +3,16 @@ use lib.Seq.{set-out}
 use borrow.Author.Needs.{needs}
 use Rattle.tape.proofs.put_if_room.Statement.{statement}
 use Rattle.tape.proofs.put_if_room.Tie as tie
-use Rattle.tape.proofs.put_if_room.Reads as reads
-use Rattle.tape.proofs.put_if_room.Lts as lts
 
--- src/lib.rt:237:9
 slice-write-out : tie.Need-slice-write-out
 slice-write-out c = search needs
 
--- src/lib.rt:238:9
 same-length : tie.Need-same-length
 same-length c = search needs
 
--- src/lib.rt:238:9
 returns : tie.Need-returns
 returns c = search needs
 
--- src/lib.rt:233:1
 returns-2 : tie.Need-returns-2
 returns-2 c = sym (set-out _ _ _ (c .if1 .left))
 

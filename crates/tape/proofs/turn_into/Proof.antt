@@ -3,40 +3,28 @@ use Rattle.tape.proofs.Turns.{copied-turn}
 use borrow.Author.Needs.{needs}
 use Rattle.tape.proofs.turn_into.Statement.{statement}
 use Rattle.tape.proofs.turn_into.Tie as tie
-use Rattle.tape.proofs.turn_into.Reads as reads
-use Rattle.tape.proofs.turn_into.Lts as lts
-use Rattle.tape.proofs.copy_line.Reads as copy-line-reads
-use Rattle.tape.proofs.take_turn.Reads as take-turn-reads
 
--- src/lib.rt:267:43
 slice-aggregate-take-turn : tie.Need-slice-aggregate-take-turn
 slice-aggregate-take-turn c = search needs
 
--- src/lib.rt:267:9
 take-turn-requires : tie.Need-take-turn-requires
 take-turn-requires c κs = search needs
 
--- src/lib.rt:268:34
 slice-aggregate-copy-line : tie.Need-slice-aggregate-copy-line
 slice-aggregate-copy-line c = search needs
 
--- src/lib.rt:268:9
 copy-line-requires : tie.Need-copy-line-requires
 copy-line-requires c κs = search needs
 
--- src/lib.rt:254:1
 same-length : tie.Need-same-length
 same-length c = search needs
 
--- src/lib.rt:254:1
 same-length-2 : tie.Need-same-length-2
 same-length-2 c = search needs
 
--- src/lib.rt:254:1
 same-length-3 : tie.Need-same-length-3
 same-length-3 c = search needs
 
--- src/lib.rt:254:1
 returns : tie.Need-returns
 returns c = copied-turn (c .before .before .before .before .before .before .before .before .before .before .before .take-turn .ensures) (omega arith) (c .before .before .before .copy-line .ensures)
 

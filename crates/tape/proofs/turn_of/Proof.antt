@@ -13,130 +13,94 @@ use Rattle.types.specs.declared.Outcome.{Outcome}
 use borrow.Author.Needs.{needs}
 use Rattle.tape.proofs.turn_of.Statement.{statement}
 use Rattle.tape.proofs.turn_of.Tie as tie
-use Rattle.tape.proofs.turn_of.Reads as reads
-use Rattle.tape.proofs.turn_of.Lts as lts
-use Rattle.completion.proofs.complete.Reads as complete-reads
-use Rattle.completion.proofs.fail.Reads as fail-reads
-use Rattle.tape.proofs.broken_turn.Reads as broken-turn-reads
-use Rattle.tape.proofs.call_turn.Reads as call-turn-reads
-use Rattle.tape.proofs.completion_turn.Reads as completion-turn-reads
 
--- src/lib.rt:144:24
 enum-known-found : tie.Need-enum-known-found
 enum-known-found c = search needs
 
--- src/lib.rt:145:63
 add-call-turn : tie.Need-add-call-turn
 add-call-turn c = omega (arith, rw (c .before .before .before .found .given .1) at (c .before .before .before .before .before .before .before .before .before .pre .0))
 
--- src/lib.rt:145:13
 call-turn-requires : tie.Need-call-turn-requires
 call-turn-requires c κs = search needs
 
--- src/lib.rt:148:45
 enum-told : tie.Need-enum-told
 enum-told c = search needs
 
--- src/lib.rt:148:17
 complete-requires : tie.Need-complete-requires
 complete-requires c κs = search needs
 
--- src/lib.rt:149:40
 add-completion-turn : tie.Need-add-completion-turn
 add-completion-turn c = omega (arith, rw (c .before .before .before .before .before .before .before .enum-told .given .1) at (c .before .before .before .before .before .before .before .before .before .before .before .before .before .pre .0))
 
--- src/lib.rt:149:13
 completion-turn-requires : tie.Need-completion-turn-requires
 completion-turn-requires c κs = search needs
 
--- src/lib.rt:152:24
 enum-told-2 : tie.Need-enum-told-2
 enum-told-2 c = search needs
 
--- src/lib.rt:152:24
 add-from : tie.Need-add-from
 add-from c = omega (arith, rw (c .enum-told2 .given .1) at (c .before .before .before .before .before .before .pre .0))
 
--- src/lib.rt:153:24
 add-next : tie.Need-add-next
 add-next c = omega (arith, rw (c .enum-told2 .given .1) at (c .before .before .before .before .before .before .pre .0))
 
--- src/lib.rt:154:51
 sub-fail : tie.Need-sub-fail
 sub-fail c = search needs
 
--- src/lib.rt:154:51
 part-fail-start : tie.Need-part-fail-start
 part-fail-start c = search needs
 
--- src/lib.rt:154:51
 part-fail-end : tie.Need-part-fail-end
 part-fail-end c = omega (arith, rw (c .before .before .enum-told2 .given .1) at (c .before .before .before .before .before .before .before .before .pre .0))
 
--- src/lib.rt:154:17
 fail-requires : tie.Need-fail-requires
 fail-requires c κs = search needs
 
--- src/lib.rt:155:13
 completion-turn-requires-2 : tie.Need-completion-turn-requires-2
 completion-turn-requires-2 c κs = search needs
 
--- src/lib.rt:157:46
 enum-told-3 : tie.Need-enum-told-3
 enum-told-3 c = search needs
 
--- src/lib.rt:157:27
 broken-turn-requires : tie.Need-broken-turn-requires
 broken-turn-requires c κs = search needs
 
--- src/lib.rt:130:1
 same-length : tie.Need-same-length
 same-length c = search needs
 
--- src/lib.rt:130:1
 same-length-2 : tie.Need-same-length-2
 same-length-2 c = search needs
 
--- src/lib.rt:130:1
 same-length-3 : tie.Need-same-length-3
 same-length-3 c = search needs
 
--- src/lib.rt:130:1
 returns : tie.Need-returns
 returns c = rw (c .before .before .before .before .before .before .before .found .given .1) (c .before .before .call-turn .ensures)
 
--- src/lib.rt:130:1
 same-length-4 : tie.Need-same-length-4
 same-length-4 c = search needs
 
--- src/lib.rt:130:1
 same-length-5 : tie.Need-same-length-5
 same-length-5 c = search needs
 
--- src/lib.rt:130:1
 same-length-6 : tie.Need-same-length-6
 same-length-6 c = search needs
 
--- src/lib.rt:130:1
 returns-2 : tie.Need-returns-2
 returns-2 c = let o = c .before .before .before .before .before .before .before .before .complete .ensures in
     let t = c .before .before .completion-turn .ensures in
     rw (c .before .before .before .before .before .before .before .before .before .before .before .enum-told .given .1)
     (takes (t .0) (ap (λ (x : Outcome). completionLine goodMark (x .answer)) (o .0)) (t .1 .0) (t .1 .1) (t .1 .2 ∙ ap (λ (x : Outcome). x .mount) (o .0)) (o .1 .0) (o .1 .1) (t .1 .3))
 
--- src/lib.rt:130:1
 same-length-7 : tie.Need-same-length-7
 same-length-7 c = search needs
 
--- src/lib.rt:130:1
 same-length-8 : tie.Need-same-length-8
 same-length-8 c = search needs
 
--- src/lib.rt:130:1
 same-length-9 : tie.Need-same-length-9
 same-length-9 c = search needs
 
--- src/lib.rt:130:1
 returns-3 : tie.Need-returns-3
 returns-3 c = let o = c .before .before .before .before .before .before .before .before .fail .ensures in
     let t = c .before .before .completion-turn2 .ensures in
@@ -155,11 +119,9 @@ returns-3 c = let o = c .before .before .before .before .before .before .before 
     (o .1 .1 ∙ ap (λ (x : Digest). stored Sequential (x .store) (a .seq .now)) d)
     (t .1 .3))
 
--- src/lib.rt:130:1
 same-length-10 : tie.Need-same-length-10
 same-length-10 c = search needs
 
--- src/lib.rt:130:1
 returns-4 : tie.Need-returns-4
 returns-4 c = rw (c .before .before .before .before .enum-told3 .given .1) (c .before .before .broken-turn .ensures _ _)
 

@@ -4,29 +4,19 @@ use Rattle.tape.specs.Lines.{brokenLine}
 use borrow.Author.Needs.{needs}
 use Rattle.tape.proofs.lines.put_broken_line.Statement.{statement}
 use Rattle.tape.proofs.lines.put_broken_line.Tie as tie
-use Rattle.tape.proofs.lines.put_broken_line.Reads as reads
-use Rattle.tape.proofs.lines.put_broken_line.Lts as lts
-use Rattle.tape.proofs.lines.put_pair.Reads as put-pair-reads
-use Rattle.tape.proofs.text.put_byte.Reads as put-byte-reads
-use Rattle.tape.proofs.text.put_field.Reads as put-field-reads
 
--- src/lines.rt:228:9
 put-pair-requires : tie.Need-put-pair-requires
 put-pair-requires c κs = search needs
 
--- src/lines.rt:229:9
 put-field-requires : tie.Need-put-field-requires
 put-field-requires c κs = search needs
 
--- src/lines.rt:230:5
 put-byte-requires : tie.Need-put-byte-requires
 put-byte-requires c κs = search needs
 
--- src/lines.rt:223:1
 same-length : tie.Need-same-length
 same-length c = search needs
 
--- src/lines.rt:223:1
 returns : tie.Need-returns
 unfolding brokenLine
 returns c = (then (then (c .before .before .before .before .before .before .before .before .before .before .put-pair .ensures) (c .before .before .before .before .before .before .put-field .ensures .0)) (c .before .before .put-byte .ensures), omega (arith, c .before .before .before .before .before .before .before .before .before .before .put-pair .ensures .place, c .before .before .before .before .before .before .put-field .ensures .1, c .before .before .put-byte .ensures .place))

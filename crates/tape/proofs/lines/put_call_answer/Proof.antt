@@ -3,66 +3,46 @@ use Rattle.tape.proofs.Stores.{then}
 use borrow.Author.Needs.{needs}
 use Rattle.tape.proofs.lines.put_call_answer.Statement.{statement}
 use Rattle.tape.proofs.lines.put_call_answer.Tie as tie
-use Rattle.tape.proofs.lines.put_call_answer.Reads as reads
-use Rattle.tape.proofs.lines.put_call_answer.Lts as lts
-use Rattle.tape.proofs.lines.put_command.Reads as put-command-reads
-use Rattle.tape.proofs.lines.put_done.Reads as put-done-reads
-use Rattle.tape.proofs.lines.put_refusal.Reads as put-refusal-reads
-use Rattle.tape.proofs.text.put_field.Reads as put-field-reads
 
--- src/lines.rt:143:25
 enum-known-a : tie.Need-enum-known-a
 enum-known-a c = search needs
 
--- src/lines.rt:143:31
 put-refusal-requires : tie.Need-put-refusal-requires
 put-refusal-requires c κs = search needs
 
--- src/lines.rt:144:22
 enum-known-a-2 : tie.Need-enum-known-a-2
 enum-known-a-2 c = search needs
 
--- src/lines.rt:145:17
 put-field-requires : tie.Need-put-field-requires
 put-field-requires c κs = search needs
 
--- src/lines.rt:146:13
 put-done-requires : tie.Need-put-done-requires
 put-done-requires c κs = search needs
 
--- src/lines.rt:148:23
 enum-known-a-3 : tie.Need-enum-known-a-3
 enum-known-a-3 c = search needs
 
--- src/lines.rt:149:17
 put-field-requires-2 : tie.Need-put-field-requires-2
 put-field-requires-2 c κs = search needs
 
--- src/lines.rt:150:13
 put-command-requires : tie.Need-put-command-requires
 put-command-requires c κs = search needs
 
--- src/lines.rt:137:1
 same-length : tie.Need-same-length
 same-length c = search needs
 
--- src/lines.rt:137:1
 returns : tie.Need-returns
 returns c = (rw (c .before .before .before .before .before .a .given .1) (c .before .before .put-refusal .ensures .0), omega (arith, c .before .before .put-refusal .ensures .1))
 
--- src/lines.rt:137:1
 same-length-2 : tie.Need-same-length-2
 same-length-2 c = search needs
 
--- src/lines.rt:137:1
 returns-2 : tie.Need-returns-2
 returns-2 c = (rw (c .before .before .before .before .before .before .before .before .before .a2 .given .1) (then (c .before .before .before .before .before .before .put-field .ensures .0) (c .before .before .put-done .ensures .0)), omega (arith, c .before .before .before .before .before .before .put-field .ensures .1, c .before .before .put-done .ensures .1))
 
--- src/lines.rt:137:1
 same-length-3 : tie.Need-same-length-3
 same-length-3 c = search needs
 
--- src/lines.rt:137:1
 returns-3 : tie.Need-returns-3
 returns-3 c = (rw (c .before .before .before .before .before .before .before .before .before .a3 .given .1) (then (c .before .before .before .before .before .before .put-field2 .ensures .0) (c .before .before .put-command .ensures .0)), omega (arith, c .before .before .before .before .before .before .put-field2 .ensures .1, c .before .before .put-command .ensures .1))
 

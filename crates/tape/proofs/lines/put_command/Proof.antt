@@ -3,29 +3,19 @@ use Rattle.tape.proofs.Stores.{then}
 use borrow.Author.Needs.{needs}
 use Rattle.tape.proofs.lines.put_command.Statement.{statement}
 use Rattle.tape.proofs.lines.put_command.Tie as tie
-use Rattle.tape.proofs.lines.put_command.Reads as reads
-use Rattle.tape.proofs.lines.put_command.Lts as lts
-use Rattle.tape.proofs.lines.letter_of.Reads as letter-of-reads
-use Rattle.tape.proofs.lines.put_pair.Reads as put-pair-reads
-use Rattle.tape.proofs.lines.put_two_fields.Reads as put-two-fields-reads
 
--- src/lines.rt:122:38
 letter-of-requires : tie.Need-letter-of-requires
 letter-of-requires c κs = search needs
 
--- src/lines.rt:122:9
 put-pair-requires : tie.Need-put-pair-requires
 put-pair-requires c κs = search needs
 
--- src/lines.rt:123:5
 put-two-fields-requires : tie.Need-put-two-fields-requires
 put-two-fields-requires c κs = search needs
 
--- src/lines.rt:116:1
 same-length : tie.Need-same-length
 same-length c = search needs
 
--- src/lines.rt:116:1
 returns : tie.Need-returns
 returns c = (then (rw (c .before .before .before .before .before .before .before .letter-of .ensures) at (c .before .before .before .before .before .before .put-pair .ensures)) (c .before .before .put-two-fields .ensures .0), omega (arith, c .before .before .before .before .before .before .put-pair .ensures .place, c .before .before .put-two-fields .ensures .1))
 

@@ -4,29 +4,19 @@ use Rattle.tape.specs.Lines.{completionLine}
 use borrow.Author.Needs.{needs}
 use Rattle.tape.proofs.lines.put_completion_line.Statement.{statement}
 use Rattle.tape.proofs.lines.put_completion_line.Tie as tie
-use Rattle.tape.proofs.lines.put_completion_line.Reads as reads
-use Rattle.tape.proofs.lines.put_completion_line.Lts as lts
-use Rattle.tape.proofs.lines.put_completion_answer.Reads as put-completion-answer-reads
-use Rattle.tape.proofs.lines.put_pair.Reads as put-pair-reads
-use Rattle.tape.proofs.text.put_byte.Reads as put-byte-reads
 
--- src/lines.rt:191:9
 put-pair-requires : tie.Need-put-pair-requires
 put-pair-requires c κs = search needs
 
--- src/lines.rt:192:9
 put-completion-answer-requires : tie.Need-put-completion-answer-requires
 put-completion-answer-requires c κs = search needs
 
--- src/lines.rt:193:5
 put-byte-requires : tie.Need-put-byte-requires
 put-byte-requires c κs = search needs
 
--- src/lines.rt:186:1
 same-length : tie.Need-same-length
 same-length c = search needs
 
--- src/lines.rt:186:1
 returns : tie.Need-returns
 unfolding completionLine
 returns c = (then (then (c .before .before .before .before .before .before .before .before .before .before .put-pair .ensures) (c .before .before .before .before .before .before .put-completion-answer .ensures .0)) (c .before .before .put-byte .ensures), omega (arith, c .before .before .before .before .before .before .before .before .before .before .put-pair .ensures .place, c .before .before .before .before .before .before .put-completion-answer .ensures .1, c .before .before .put-byte .ensures .place))

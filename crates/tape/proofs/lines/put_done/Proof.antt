@@ -3,24 +3,16 @@ use Rattle.tape.proofs.Stores.{then}
 use borrow.Author.Needs.{needs}
 use Rattle.tape.proofs.lines.put_done.Statement.{statement}
 use Rattle.tape.proofs.lines.put_done.Tie as tie
-use Rattle.tape.proofs.lines.put_done.Reads as reads
-use Rattle.tape.proofs.lines.put_done.Lts as lts
-use Rattle.tape.proofs.lines.put_pair.Reads as put-pair-reads
-use Rattle.tape.proofs.text.put_field.Reads as put-field-reads
 
--- src/lines.rt:132:9
 put-pair-requires : tie.Need-put-pair-requires
 put-pair-requires c κs = search needs
 
--- src/lines.rt:133:5
 put-field-requires : tie.Need-put-field-requires
 put-field-requires c κs = search needs
 
--- src/lines.rt:127:1
 same-length : tie.Need-same-length
 same-length c = search needs
 
--- src/lines.rt:127:1
 returns : tie.Need-returns
 returns c = (then (c .before .before .before .before .before .before .put-pair .ensures) (c .before .before .put-field .ensures .0), omega (arith, c .before .before .before .before .before .before .put-pair .ensures .place, c .before .before .put-field .ensures .1))
 

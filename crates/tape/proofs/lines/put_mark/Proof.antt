@@ -1,71 +1,52 @@
 use borrow.Author.Needs.{needs}
 use Rattle.tape.proofs.lines.put_mark.Statement.{statement}
 use Rattle.tape.proofs.lines.put_mark.Tie as tie
-use Rattle.tape.proofs.lines.put_mark.Reads as reads
-use Rattle.tape.proofs.lines.put_mark.Lts as lts
-use Rattle.tape.proofs.lines.put_pair.Reads as put-pair-reads
 
--- src/lines.rt:96:38
 enum-told : tie.Need-enum-told
 enum-told c = search needs
 
--- src/lines.rt:96:29
 put-pair-requires : tie.Need-put-pair-requires
 put-pair-requires c κs = search needs
 
--- src/lines.rt:97:39
 enum-told-2 : tie.Need-enum-told-2
 enum-told-2 c = search needs
 
--- src/lines.rt:97:30
 put-pair-requires-2 : tie.Need-put-pair-requires-2
 put-pair-requires-2 c κs = search needs
 
--- src/lines.rt:98:39
 enum-told-3 : tie.Need-enum-told-3
 enum-told-3 c = search needs
 
--- src/lines.rt:98:30
 put-pair-requires-3 : tie.Need-put-pair-requires-3
 put-pair-requires-3 c κs = search needs
 
--- src/lines.rt:99:33
 enum-told-4 : tie.Need-enum-told-4
 enum-told-4 c = search needs
 
--- src/lines.rt:99:24
 put-pair-requires-4 : tie.Need-put-pair-requires-4
 put-pair-requires-4 c κs = search needs
 
--- src/lines.rt:91:1
 same-length : tie.Need-same-length
 same-length c = search needs
 
--- src/lines.rt:91:1
 returns : tie.Need-returns
 returns c = (rw (c .before .before .before .before .enum-told .given .1) (c .before .before .put-pair .ensures), c .before .before .put-pair .ensures .place)
 
--- src/lines.rt:91:1
 same-length-2 : tie.Need-same-length-2
 same-length-2 c = search needs
 
--- src/lines.rt:91:1
 returns-2 : tie.Need-returns-2
 returns-2 c = (rw (c .before .before .before .before .enum-told2 .given .1) (c .before .before .put-pair2 .ensures), c .before .before .put-pair2 .ensures .place)
 
--- src/lines.rt:91:1
 same-length-3 : tie.Need-same-length-3
 same-length-3 c = search needs
 
--- src/lines.rt:91:1
 returns-3 : tie.Need-returns-3
 returns-3 c = (rw (c .before .before .before .before .enum-told3 .given .1) (c .before .before .put-pair3 .ensures), c .before .before .put-pair3 .ensures .place)
 
--- src/lines.rt:91:1
 same-length-4 : tie.Need-same-length-4
 same-length-4 c = search needs
 
--- src/lines.rt:91:1
 returns-4 : tie.Need-returns-4
 returns-4 c = (rw (c .before .before .before .before .enum-told4 .given .1) (c .before .before .put-pair4 .ensures), c .before .before .put-pair4 .ensures .place)
 

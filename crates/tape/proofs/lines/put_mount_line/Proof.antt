@@ -4,29 +4,19 @@ use Rattle.tape.specs.Lines.{mountLine}
 use borrow.Author.Needs.{needs}
 use Rattle.tape.proofs.lines.put_mount_line.Statement.{statement}
 use Rattle.tape.proofs.lines.put_mount_line.Tie as tie
-use Rattle.tape.proofs.lines.put_mount_line.Reads as reads
-use Rattle.tape.proofs.lines.put_mount_line.Lts as lts
-use Rattle.tape.proofs.lines.put_mount_answer.Reads as put-mount-answer-reads
-use Rattle.tape.proofs.lines.put_pair.Reads as put-pair-reads
-use Rattle.tape.proofs.text.put_byte.Reads as put-byte-reads
 
--- src/lines.rt:217:9
 put-pair-requires : tie.Need-put-pair-requires
 put-pair-requires c κs = search needs
 
--- src/lines.rt:218:9
 put-mount-answer-requires : tie.Need-put-mount-answer-requires
 put-mount-answer-requires c κs = search needs
 
--- src/lines.rt:219:5
 put-byte-requires : tie.Need-put-byte-requires
 put-byte-requires c κs = search needs
 
--- src/lines.rt:212:1
 same-length : tie.Need-same-length
 same-length c = search needs
 
--- src/lines.rt:212:1
 returns : tie.Need-returns
 unfolding mountLine
 returns c = (then (then (c .before .before .before .before .before .before .before .before .before .before .put-pair .ensures) (c .before .before .before .before .before .before .put-mount-answer .ensures .0)) (c .before .before .put-byte .ensures), omega (arith, c .before .before .before .before .before .before .before .before .before .before .put-pair .ensures .place, c .before .before .before .before .before .before .put-mount-answer .ensures .1, c .before .before .put-byte .ensures .place))

@@ -3,23 +3,16 @@ use Rattle.tape.proofs.Stores.{then, nothing}
 use borrow.Author.Needs.{needs}
 use Rattle.tape.proofs.lines.put_two_fields.Statement.{statement}
 use Rattle.tape.proofs.lines.put_two_fields.Tie as tie
-use Rattle.tape.proofs.lines.put_two_fields.Reads as reads
-use Rattle.tape.proofs.lines.put_two_fields.Lts as lts
-use Rattle.tape.proofs.text.put_field.Reads as put-field-reads
 
--- src/lines.rt:87:9
 put-field-requires : tie.Need-put-field-requires
 put-field-requires c κs = search needs
 
--- src/lines.rt:88:5
 put-field-requires-2 : tie.Need-put-field-requires-2
 put-field-requires-2 c κs = search needs
 
--- src/lines.rt:82:1
 same-length : tie.Need-same-length
 same-length c = search needs
 
--- src/lines.rt:82:1
 returns : tie.Need-returns
 returns c = (then (c .before .before .before .before .before .before .put-field .ensures .0) (then (c .before .before .put-field2 .ensures .0) (nothing _ _)), omega (arith, c .before .before .before .before .before .before .put-field .ensures .1, c .before .before .put-field2 .ensures .1))
 

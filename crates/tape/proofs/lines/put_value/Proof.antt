@@ -3,31 +3,22 @@ use Rattle.tape.proofs.Stores.{then, nothing}
 use borrow.Author.Needs.{needs}
 use Rattle.tape.proofs.lines.put_value.Statement.{statement}
 use Rattle.tape.proofs.lines.put_value.Tie as tie
-use Rattle.tape.proofs.lines.put_value.Reads as reads
-use Rattle.tape.proofs.lines.put_value.Lts as lts
-use Rattle.tape.proofs.text.put_field.Reads as put-field-reads
 
--- src/lines.rt:58:19
 enum-known-v : tie.Need-enum-known-v
 enum-known-v c = search needs
 
--- src/lines.rt:58:25
 put-field-requires : tie.Need-put-field-requires
 put-field-requires c κs = search needs
 
--- src/lines.rt:59:27
 enum-told : tie.Need-enum-told
 enum-told c = search needs
 
--- src/lines.rt:52:1
 same-length : tie.Need-same-length
 same-length c = search needs
 
--- src/lines.rt:52:1
 returns : tie.Need-returns
 returns c = (rw (c .before .before .before .before .before .v .given .1) (then (c .before .before .put-field .ensures .0) (nothing _ _)), c .before .before .put-field .ensures .1)
 
--- src/lines.rt:52:1
 returns-2 : tie.Need-returns-2
 returns-2 c = (rw (c .enum-told .given .1) (nothing _ _), omega arith)
 

@@ -5,18 +5,13 @@ use borrow.Author.Tests.{leb-true}
 use borrow.Author.Needs.{needs}
 use Rattle.tape.proofs.records.holds.Statement.{statement}
 use Rattle.tape.proofs.records.holds.Tie as tie
-use Rattle.tape.proofs.records.holds.Reads as reads
-use Rattle.tape.proofs.records.holds.Lts as lts
 
--- src/records.rt:27:14
 sub-result : tie.Need-sub-result
 sub-result c = search needs
 
--- src/records.rt:22:1
 returns : tie.Need-returns
 returns c = (leb-room _ _ _ (c .if1 .taken), λ e. leb-true _ _ (sym (leb-room _ _ _ (c .if1 .taken)) ∙ e))
 
--- src/records.rt:22:1
 returns-2 : tie.Need-returns-2
 returns-2 c = (sym (leb-no-room (c .before .args .at) (c .before .args .n) _ (c .if1 .left)), λ e. absurd (false≢true e))
 

@@ -12,57 +12,41 @@ use Rattle.tape.specs.Records.{opens}
 use borrow.Author.Needs.{needs}
 use Rattle.tape.proofs.records.opens.Statement.{statement}
 use Rattle.tape.proofs.records.opens.Tie as tie
-use Rattle.tape.proofs.records.opens.Reads as reads
-use Rattle.tape.proofs.records.opens.Lts as lts
-use Rattle.tape.proofs.records.mount_place.Reads as mount-place-reads
-use Rattle.tape.proofs.records.run_place.Reads as run-place-reads
-use Rattle.tape.proofs.records.stands.Reads as stands-reads
 
--- src/records.rt:130:9
 stands-requires : tie.Need-stands-requires
 stands-requires c κs = search needs
 
--- src/records.rt:131:9
 returns : tie.Need-returns
 unfolding opens
 returns c = (simp (sym (c .before .stands .ensures .0) ∙ not-true _ (c .if1 .taken)), λ e. absurd (false≢true e))
 
--- src/records.rt:133:9
 stands-requires-2 : tie.Need-stands-requires-2
 stands-requires-2 c κs = search needs
 
--- src/records.rt:134:9
 returns-2 : tie.Need-returns-2
 unfolding opens
 returns-2 c = (simp (sym (c .before .before .before .stands .ensures .0) ∙ not-false _ (c .before .before .if1 .left), sym (c .before .stands2 .ensures .0) ∙ not-true _ (c .if2 .taken)), λ e. absurd (false≢true e))
 
--- src/records.rt:136:9
 stands-requires-3 : tie.Need-stands-requires-3
 stands-requires-3 c κs = search needs
 
--- src/records.rt:137:9
 returns-3 : tie.Need-returns-3
 unfolding opens
 returns-3 c = (simp (sym (c .before .before .before .before .before .stands .ensures .0) ∙ not-false _ (c .before .before .before .before .if1 .left), sym (c .before .before .before .stands2 .ensures .0) ∙ not-false _ (c .before .before .if2 .left), sym (c .before .stands3 .ensures .0) ∙ not-true _ (c .if3 .taken)), λ e. absurd (false≢true e))
 
--- src/records.rt:139:19
 mount-place-requires : tie.Need-mount-place-requires
 mount-place-requires c κs = omega (arith, c .before .stands3 .ensures .1 (not-false _ (c .if3 .left)))
 
--- src/records.rt:139:9
 stands-requires-4 : tie.Need-stands-requires-4
 stands-requires-4 c κs = search needs
 
--- src/records.rt:140:9
 returns-4 : tie.Need-returns-4
 unfolding opens
 returns-4 c = (simp (sym (c .before .before .before .before .before .before .before .before .stands .ensures .0) ∙ not-false _ (c .before .before .before .before .before .before .before .if1 .left), sym (c .before .before .before .before .before .before .stands2 .ensures .0) ∙ not-false _ (c .before .before .before .before .before .if2 .left), sym (c .before .before .before .before .stands3 .ensures .0) ∙ not-false _ (c .before .before .before .if3 .left), rw (c .before .before .mount-place .ensures .0) at (sym (c .before .stands4 .ensures .0) ∙ not-true _ (c .if4 .taken))), λ e. absurd (false≢true e))
 
--- src/records.rt:142:5
 run-place-requires : tie.Need-run-place-requires
 run-place-requires c κs = omega (arith, c .before .before .mount-place .ensures .0, c .before .before .before .before .stands3 .ensures .1 (not-false _ (c .before .before .before .if3 .left)), c .before .stands4 .ensures .1 (not-false _ (c .if4 .left)))
 
--- src/records.rt:126:1
 returns-5 : tie.Need-returns-5
 unfolding opens
 returns-5 c = let b = c .before .before .before .before .before .before .before .before .before .before .before .args .b .now in (

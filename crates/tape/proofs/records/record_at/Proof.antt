@@ -3,104 +3,76 @@ use Rattle.tape.specs.Records.{recordAt}
 use borrow.Author.Needs.{needs}
 use Rattle.tape.proofs.records.record_at.Statement.{statement}
 use Rattle.tape.proofs.records.record_at.Tie as tie
-use Rattle.tape.proofs.records.record_at.Reads as reads
-use Rattle.tape.proofs.records.record_at.Lts as lts
-use Rattle.tape.proofs.records.length_at.Reads as length-at-reads
-use Rattle.tape.proofs.records.offset_at.Reads as offset-at-reads
-use Rattle.tape.proofs.records.on_file_at.Reads as on-file-at-reads
-use Rattle.tape.proofs.records.stands.Reads as stands-reads
 
--- src/records.rt:73:8
 stands-requires : tie.Need-stands-requires
 stands-requires c κs = search needs
 
--- src/records.rt:74:28
 offset-at-requires : tie.Need-offset-at-requires
 offset-at-requires c κs = c .before .stands .ensures .1 (c .if1 .taken)
 
--- src/records.rt:74:46
 length-at-requires : tie.Need-length-at-requires
 length-at-requires c κs = c .before .before .stands .ensures .1 (c .before .if1 .taken)
 
--- src/records.rt:75:9
 on-file-at-requires : tie.Need-on-file-at-requires
 on-file-at-requires c κs = c .before .before .before .stands .ensures .1 (c .before .before .if1 .taken)
 
--- src/records.rt:75:9
 returns : tie.Need-returns
 unfolding recordAt
 returns c = (simp (sym (c .before .before .before .before .stands .ensures .0) ∙ c .before .before .before .if1 .taken) (cc), c .on-file-at .ensures .1)
 
--- src/records.rt:77:8
 stands-requires-2 : tie.Need-stands-requires-2
 stands-requires-2 c κs = search needs
 
--- src/records.rt:78:29
 offset-at-requires-2 : tie.Need-offset-at-requires-2
 offset-at-requires-2 c κs = c .before .stands2 .ensures .1 (c .if2 .taken)
 
--- src/records.rt:78:47
 length-at-requires-2 : tie.Need-length-at-requires-2
 length-at-requires-2 c κs = c .before .before .stands2 .ensures .1 (c .before .if2 .taken)
 
--- src/records.rt:79:9
 on-file-at-requires-2 : tie.Need-on-file-at-requires-2
 on-file-at-requires-2 c κs = c .before .before .before .stands2 .ensures .1 (c .before .before .if2 .taken)
 
--- src/records.rt:79:9
 returns-2 : tie.Need-returns-2
 unfolding recordAt
 returns-2 c = (simp (sym (c .before .before .before .before .before .before .stands .ensures .0) ∙ c .before .before .before .before .before .if1 .left, sym (c .before .before .before .before .stands2 .ensures .0) ∙ c .before .before .before .if2 .taken) (cc), c .on-file-at2 .ensures .1)
 
--- src/records.rt:81:8
 stands-requires-3 : tie.Need-stands-requires-3
 stands-requires-3 c κs = search needs
 
--- src/records.rt:82:49
 length-at-requires-3 : tie.Need-length-at-requires-3
 length-at-requires-3 c κs = c .before .stands3 .ensures .1 (c .if3 .taken)
 
--- src/records.rt:82:9
 on-file-at-requires-3 : tie.Need-on-file-at-requires-3
 on-file-at-requires-3 c κs = c .before .before .stands3 .ensures .1 (c .before .if3 .taken)
 
--- src/records.rt:82:9
 returns-3 : tie.Need-returns-3
 unfolding recordAt
 returns-3 c = (simp (sym (c .before .before .before .before .before .before .before .stands .ensures .0) ∙ c .before .before .before .before .before .before .if1 .left, sym (c .before .before .before .before .before .stands2 .ensures .0) ∙ c .before .before .before .before .if2 .left, sym (c .before .before .before .stands3 .ensures .0) ∙ c .before .before .if3 .taken) (cc), c .on-file-at3 .ensures .1)
 
--- src/records.rt:84:8
 stands-requires-4 : tie.Need-stands-requires-4
 stands-requires-4 c κs = search needs
 
--- src/records.rt:85:9
 on-file-at-requires-4 : tie.Need-on-file-at-requires-4
 on-file-at-requires-4 c κs = c .before .stands4 .ensures .1 (c .if4 .taken)
 
--- src/records.rt:85:9
 returns-4 : tie.Need-returns-4
 unfolding recordAt
 returns-4 c = (simp (sym (c .before .before .before .before .before .before .before .before .stands .ensures .0) ∙ c .before .before .before .before .before .before .before .if1 .left, sym (c .before .before .before .before .before .before .stands2 .ensures .0) ∙ c .before .before .before .before .before .if2 .left, sym (c .before .before .before .before .stands3 .ensures .0) ∙ c .before .before .before .if3 .left, sym (c .before .before .stands4 .ensures .0) ∙ c .before .if4 .taken) (cc), c .on-file-at4 .ensures .1)
 
--- src/records.rt:87:8
 stands-requires-5 : tie.Need-stands-requires-5
 stands-requires-5 c κs = search needs
 
--- src/records.rt:88:9
 returns-5 : tie.Need-returns-5
 unfolding recordAt
 returns-5 c = (simp (sym (c .before .before .before .before .before .before .before .before .before .stands .ensures .0) ∙ c .before .before .before .before .before .before .before .before .if1 .left, sym (c .before .before .before .before .before .before .before .stands2 .ensures .0) ∙ c .before .before .before .before .before .before .if2 .left, sym (c .before .before .before .before .before .stands3 .ensures .0) ∙ c .before .before .before .before .if3 .left, sym (c .before .before .before .stands4 .ensures .0) ∙ c .before .before .if4 .left, sym (c .before .stands5 .ensures .0) ∙ c .if5 .taken), c .before .stands5 .ensures .1 (c .if5 .taken))
 
--- src/records.rt:90:8
 stands-requires-6 : tie.Need-stands-requires-6
 stands-requires-6 c κs = search needs
 
--- src/records.rt:69:1
 returns-6 : tie.Need-returns-6
 unfolding recordAt
 returns-6 c = (simp (sym (c .before .before .before .before .before .before .before .before .before .before .before .stands .ensures .0) ∙ c .before .before .before .before .before .before .before .before .before .before .if1 .left, sym (c .before .before .before .before .before .before .before .before .before .stands2 .ensures .0) ∙ c .before .before .before .before .before .before .before .before .if2 .left, sym (c .before .before .before .before .before .before .before .stands3 .ensures .0) ∙ c .before .before .before .before .before .before .if3 .left, sym (c .before .before .before .before .before .stands4 .ensures .0) ∙ c .before .before .before .before .if4 .left, sym (c .before .before .before .stands5 .ensures .0) ∙ c .before .before .if5 .left, sym (c .before .stands6 .ensures .0) ∙ c .if6 .taken), c .before .stands6 .ensures .1 (c .if6 .taken))
 
--- src/records.rt:69:1
 returns-7 : tie.Need-returns-7
 unfolding recordAt
 returns-7 c = (simp (sym (c .before .before .before .before .before .before .before .before .before .before .before .stands .ensures .0) ∙ c .before .before .before .before .before .before .before .before .before .before .if1 .left, sym (c .before .before .before .before .before .before .before .before .before .stands2 .ensures .0) ∙ c .before .before .before .before .before .before .before .before .if2 .left, sym (c .before .before .before .before .before .before .before .stands3 .ensures .0) ∙ c .before .before .before .before .before .before .if3 .left, sym (c .before .before .before .before .before .stands4 .ensures .0) ∙ c .before .before .before .before .if4 .left, sym (c .before .before .before .stands5 .ensures .0) ∙ c .before .before .if5 .left, sym (c .before .stands6 .ensures .0) ∙ c .if6 .left), tt)

@@ -3,22 +3,16 @@ use borrow.Author.Tests.{le-leb, lt-leb}
 use borrow.Author.Needs.{needs}
 use Rattle.tape.proofs.records.report_length.Statement.{statement}
 use Rattle.tape.proofs.records.report_length.Tie as tie
-use Rattle.tape.proofs.records.report_length.Reads as reads
-use Rattle.tape.proofs.records.report_length.Lts as lts
 
--- src/records.rt:102:14
 mul-result : tie.Need-mul-result
 mul-result c = search needs
 
--- src/records.rt:102:9
 add-result : tie.Need-add-result
 add-result c = search needs
 
--- src/records.rt:98:1
 returns : tie.Need-returns
 returns c = (simp (le-leb _ _ (c .if1 .taken)), omega arith)
 
--- src/records.rt:98:1
 returns-2 : tie.Need-returns-2
 returns-2 c = (simp (lt-leb _ _ (c .if1 .left)), omega arith)
 

@@ -5,32 +5,23 @@ use Rattle.tape.specs.Records.{stands}
 use borrow.Author.Needs.{needs}
 use Rattle.tape.proofs.records.stands.Statement.{statement}
 use Rattle.tape.proofs.records.stands.Tie as tie
-use Rattle.tape.proofs.records.stands.Reads as reads
-use Rattle.tape.proofs.records.stands.Lts as lts
-use Rattle.tape.proofs.records.holds.Reads as holds-reads
 
--- src/records.rt:39:8
 holds-requires : tie.Need-holds-requires
 holds-requires c κs = search needs
 
--- src/records.rt:40:10
 shared-slice-read-result : tie.Need-shared-slice-read-result
 shared-slice-read-result c = omega (arith, c .before .before .holds .ensures .1 (c .before .if1 .taken))
 
--- src/records.rt:40:27
 add-result : tie.Need-add-result
 add-result c = omega (arith, c .before .before .holds .ensures .1 (c .before .if1 .taken))
 
--- src/records.rt:40:25
 shared-slice-read-result-2 : tie.Need-shared-slice-read-result-2
 shared-slice-read-result-2 c = omega (arith, c .before .before .before .holds .ensures .1 (c .before .before .if1 .taken))
 
--- src/records.rt:34:1
 returns : tie.Need-returns
 unfolding stands
 returns c = (simp (sym (c .before .before .before .holds .ensures .0) ∙ c .before .before .if1 .taken), λ e. c .before .before .before .holds .ensures .1 (c .before .before .if1 .taken))
 
--- src/records.rt:34:1
 returns-2 : tie.Need-returns-2
 unfolding stands
 returns-2 c = (simp (sym (c .before .holds .ensures .0) ∙ c .if1 .left), λ e. absurd (false≢true e))
