@@ -1,0 +1,228 @@
+//! The pace of the proved library beside ordinary Rust programs that do the same, measured in one run.
+//! A pace is the other's time divided by the library's: 1 is as fast, 2 twice as fast, 0.5 half as fast.
+
+use linked::{ANSWER_WORDS, MOUNT_WORDS, ROW_WORDS};
+use reference::calls::{Call, Request};
+use reference::mount::Input;
+use reference::types::{FileKind, Row, Volume, MAX_FILES};
+use std::hint::black_box;
+use std::time::Duration;
+
+/// Rounds; each measures all programs once, one after the other, and the median is what counts.
+const ROUNDS: usize = 15;
+
+const BLOCK: u64 = 4096;
+const ZONES: u64 = 1023;
+/// Sectors in each zone: room for all the appends of a round.
+const ZONE_SECTORS: u64 = 1 << 24;
+
+const POLYNOMIAL: u32 = 0xEDB8_8320;
+
+const fn remainders() -> [u32; 256] {
+    let mut table = [0; 256];
+    let mut byte = 0;
+    while byte < 256 {
+        let mut remainder = byte as u32;
+        let mut bit = 0;
+        while bit < 8 {
+            remainder = if remainder & 1 == 1 { (remainder >> 1) ^ POLYNOMIAL } else { remainder >> 1 };
+            bit += 1;
+        }
+        table[byte] = remainder;
+        byte += 1;
+    }
+    table
+}
+
+static TABLE: [u32; 256] = remainders();
+
+/// The ordinary program: a table, one byte at a time.
+fn bytewise(bytes: &[u8]) -> u32 {
+    bytes.iter().fold(u32::MAX, |sum, &byte| (sum >> 8) ^ TABLE[((sum ^ u32::from(byte)) & 0xFF) as usize])
+}
+
+fn put(bytes: &mut [u8], at: usize, value: &[u8]) {
+    bytes[at..at + value.len()].copy_from_slice(value);
+}
+
+/// A volume of 1,023 zones, the first half conventional, the others sequential and empty.
+fn input() -> Input {
+    let mut super_block = vec![0; 4096];
+    put(&mut super_block, 0, &0x5A4F_4653_u32.to_le_bytes());
+    let sum = bytewise(&super_block);
+    put(&mut super_block, 4, &sum.to_le_bytes());
+    let mut report = vec![0; 16 + 64 * ZONES as usize];
+    put(&mut report, 8, &(ZONES as u32).to_le_bytes());
+    for zone in 0..ZONES {
+        let at = 16 + 64 * zone as usize;
+        let conventional = zone <= ZONES / 2;
+        put(&mut report, at, &(zone * ZONE_SECTORS).to_le_bytes());
+        put(&mut report, at + 8, &ZONE_SECTORS.to_le_bytes());
+        put(&mut report, at + 16, &(zone * ZONE_SECTORS).to_le_bytes());
+        report[at + 24] = if conventional { 1 } else { 2 };
+        report[at + 25] = if conventional { 0 } else { 1 };
+    }
+    Input { block: BLOCK as u16, super_block, report, options: b"errors=repair".to_vec() }
+}
+
+/// What the library is lent.
+struct Lent {
+    mount: [u64; MOUNT_WORDS],
+    cnv: Vec<u64>,
+    seq: Vec<u64>,
+    answer: [u64; ANSWER_WORDS],
+}
+
+impl Lent {
+    fn new() -> Lent {
+        let table = || vec![0; MAX_FILES * ROW_WORDS];
+        Lent { mount: [0; MOUNT_WORDS], cnv: table(), seq: table(), answer: [0; ANSWER_WORDS] }
+    }
+
+    fn mount(&mut self, input: &Input) -> u64 {
+        let Lent { mount, cnv, seq, answer } = self;
+        linked::mount(
+            u64::from(input.block),
+            &input.super_block,
+            &input.options,
+            &input.report,
+            cnv,
+            seq,
+            mount,
+            answer,
+        )
+    }
+
+    fn append(&mut self, offset: u64) -> u64 {
+        let Lent { mount, cnv, seq, answer } = self;
+        linked::write(mount, cnv, seq, 1, 7, offset, BLOCK, answer)
+            + linked::complete(mount, cnv, seq, answer)
+    }
+}
+
+fn volume(input: &Input) -> Volume {
+    let mut cnv = vec![Row::EMPTY; MAX_FILES];
+    let mut seq = vec![Row::EMPTY; MAX_FILES];
+    let mount = reference::mount::mount(input, &mut cnv, &mut seq).expect("a good volume");
+    Volume { mount, cnv, seq }
+}
+
+fn append(volume: &mut Volume, offset: u64) -> u64 {
+    let request = Request::Write { offset, length: BLOCK };
+    volume.call(&Call { kind: FileKind::Sequential, number: 7, request }).expect("an append");
+    volume.succeed().expect("its completion")
+}
+
+#[repr(C)]
+struct Timespec {
+    seconds: i64,
+    nanoseconds: i64,
+}
+
+extern "C" {
+    fn clock_gettime(clock: i32, time: *mut Timespec) -> i32;
+}
+
+/// The time that this process has had on a core: other work on the machine hardly changes it.
+fn cpu_time() -> Duration {
+    const PROCESS_CPU_TIME: i32 = 2;
+    let mut now = Timespec { seconds: 0, nanoseconds: 0 };
+    // It writes one such struct, through a pointer to one.
+    let status = unsafe { clock_gettime(PROCESS_CPU_TIME, &mut now) };
+    assert_eq!(status, 0);
+    Duration::new(now.seconds as u64, now.nanoseconds as u32)
+}
+
+/// The time of so many turns; each is told its number.
+fn time(turns: u64, mut work: impl FnMut(u64)) -> Duration {
+    let start = cpu_time();
+    for turn in 0..turns {
+        work(turn);
+    }
+    cpu_time() - start
+}
+
+/// The time of each program for a turn, in nanoseconds: the median over the rounds.
+fn medians(turns: u64, programs: &mut [&mut dyn FnMut() -> Duration]) -> Vec<f64> {
+    let mut times = vec![Vec::new(); programs.len()];
+    for _ in 0..ROUNDS {
+        for (times, program) in times.iter_mut().zip(programs.iter_mut()) {
+            times.push(program().as_nanos() as f64 / turns as f64);
+        }
+    }
+    times
+        .into_iter()
+        .map(|mut times| {
+            times.sort_by(f64::total_cmp);
+            times[ROUNDS / 2]
+        })
+        .collect()
+}
+
+fn line(what: &str, library: f64, other: f64, target: &str) {
+    println!("{what:<66} {library:>10.0} ns {other:>10.0} ns   pace {:>5.2}{target}", other / library);
+}
+
+fn checksums() -> (f64, f64) {
+    const TURNS: u64 = 2_000;
+    let block: Vec<u8> = (0..4096_u32).map(|i| (i.wrapping_mul(2_654_435_761) >> 24) as u8).collect();
+    assert_eq!(linked::checksum(&block), bytewise(&block));
+    assert_eq!(linked::checksum(&block), reference::checksum::checksum(&block));
+    let sum_by = |sum: fn(&[u8]) -> u32| {
+        time(TURNS, |_| {
+            black_box(sum(black_box(&block)));
+        })
+    };
+    let mut library = || sum_by(linked::checksum);
+    let mut table = || sum_by(bytewise);
+    let mut bits = || sum_by(reference::checksum::checksum);
+    let times = medians(TURNS, &mut [&mut library, &mut table, &mut bits]);
+    line("checksum of 4,096 bytes, beside a table, a byte at a time", times[0], times[1], "   (target 0.90)");
+    line("checksum of 4,096 bytes, beside one bit at a time", times[0], times[2], "");
+    (times[0], times[2])
+}
+
+fn mounts(input: &Input, checksum: (f64, f64)) {
+    const TURNS: u64 = 100;
+    let mut lent = Lent::new();
+    let mut cnv = vec![Row::EMPTY; MAX_FILES];
+    let mut seq = vec![Row::EMPTY; MAX_FILES];
+    let mut library = || time(TURNS, |_| assert_eq!(black_box(lent.mount(black_box(input))), 0));
+    let mut other = || {
+        time(TURNS, |_| {
+            let mounted = reference::mount::mount(black_box(input), &mut cnv, &mut seq);
+            assert!(black_box(mounted).is_ok());
+        })
+    };
+    let times = medians(TURNS, &mut [&mut library, &mut other]);
+    line("mount of 1,023 zones, beside the reference", times[0], times[1], "   (target 0.80)");
+    let (library, other) = (times[0] - checksum.0, times[1] - checksum.1);
+    line("the same less each one's checksum", library, other, "");
+}
+
+fn appends(input: &Input) {
+    const TURNS: u64 = 20_000;
+    let mut lent = Lent::new();
+    assert_eq!(lent.mount(input), 0);
+    let fresh = volume(input);
+    let seq = lent.seq.clone();
+    let mut library = || {
+        lent.seq.copy_from_slice(&seq);
+        time(TURNS, |turn| assert_eq!(black_box(lent.append(turn * BLOCK)), 0))
+    };
+    let mut held = fresh.clone();
+    let mut other = || {
+        held.seq.copy_from_slice(&fresh.seq);
+        time(TURNS, |turn| assert_eq!(black_box(append(&mut held, turn * BLOCK)), BLOCK))
+    };
+    let times = medians(TURNS, &mut [&mut library, &mut other]);
+    line("a write with its completion, beside the reference", times[0], times[1], "   (target 0.80)");
+}
+
+fn main() {
+    println!("{:<66} {:>13} {:>13}", "", "library", "other");
+    let checksum = checksums();
+    let input = input();
+    mounts(&input, checksum);
+    appends(&input);
+}

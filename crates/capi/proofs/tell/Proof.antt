@@ -1,0 +1,38 @@
+use Rattle.capi.specs.Answers.{answerWords}
+use borrow.Author.Needs.{needs}
+use Rattle.capi.proofs.tell.Statement.{statement}
+use Rattle.capi.proofs.tell.Tie as tie
+
+put-mount-requires : tie.Need-put-mount-requires
+put-mount-requires c κs = search needs
+
+answer-values-requires : tie.Need-answer-values-requires
+answer-values-requires c κs = search needs
+
+put-values-requires : tie.Need-put-values-requires
+put-values-requires c κs = search needs
+
+answer-number-requires : tie.Need-answer-number-requires
+answer-number-requires c κs = search needs
+
+same-length : tie.Need-same-length
+same-length c = search needs
+
+same-length-2 : tie.Need-same-length-2
+same-length-2 c = search needs
+
+returns : tie.Need-returns
+unfolding answerWords
+returns c = (c .answer-number .ensures, (c .before .before .before .before .before .before .before .before .put-mount .ensures, simp (c .before .before .before .put-values .ensures, c .before .before .before .before .answer-values .ensures)))
+
+pub tell-spec : {M : Type 1} → statement M
+tell-spec =
+    tie.close
+    (tie.spec
+    put-mount-requires
+    answer-values-requires
+    put-values-requires
+    answer-number-requires
+    same-length
+    same-length-2
+    returns)

@@ -1,0 +1,61 @@
+use mathlib.Core.Path.{_∙_, sym}
+use borrow.Author.Tests.{not-true, not-false}
+use Rattle.capi.specs.Interface.{completionWords, completionStore}
+use borrow.Author.Needs.{needs}
+use Rattle.capi.proofs.zonefs_fail.Statement.{statement}
+use Rattle.capi.proofs.zonefs_fail.Tie as tie
+
+is-usable-requires : tie.Need-is-usable-requires
+is-usable-requires c κs = search needs
+
+same-length : tie.Need-same-length
+same-length c = search needs
+
+returns : tie.Need-returns
+unfolding completionWords completionStore
+returns c = let e = sym (c .before .is-usable .ensures .0) ∙ not-true _ (c .if1 .taken) in (simp e, (simp e, (simp e, (simp e, simp e))))
+
+mount-from-requires : tie.Need-mount-from-requires
+mount-from-requires c κs = c .before .before .is-usable .ensures .1 (not-false _ (c .before .if1 .left)) .0
+
+fail-requires : tie.Need-fail-requires
+fail-requires c κs = search needs
+
+tell-requires : tie.Need-tell-requires
+tell-requires c κs = c .before .before .before .before .before .before .before .before .before .before .before .before .is-usable .ensures .1 (not-false _ (c .before .before .before .before .before .before .before .before .before .before .before .if1 .left))
+
+same-length-2 : tie.Need-same-length-2
+same-length-2 c = search needs
+
+same-length-3 : tie.Need-same-length-3
+same-length-3 c = search needs
+
+same-length-4 : tie.Need-same-length-4
+same-length-4 c = search needs
+
+same-length-5 : tie.Need-same-length-5
+same-length-5 c = search needs
+
+returns-2 : tie.Need-returns-2
+unfolding completionWords completionStore
+returns-2 c = let e = sym (c .before .before .before .before .before .before .before .before .before .before .before .before .before .before .before .before .before .is-usable .ensures .0) ∙ not-false _ (c .before .before .before .before .before .before .before .before .before .before .before .before .before .before .before .before .if1 .left) in
+    let t = c .before .before .before .before .tell .ensures in
+    let o = c .before .before .before .before .before .before .before .before .before .fail .ensures in
+    let m = c .before .before .before .before .before .before .before .before .before .before .before .before .before .before .mount-from .ensures in
+    (simp (e, t .0, o .0, m), (simp (e, t .1 .0, o .0, m), (simp (e, o .1 .0, m), (simp (e, o .1 .1, m), simp (e, t .1 .1, o .0, m)))))
+
+pub zonefs-fail-spec : {M : Type 1} → statement M
+zonefs-fail-spec =
+    tie.close
+    (tie.spec
+    is-usable-requires
+    same-length
+    returns
+    mount-from-requires
+    fail-requires
+    tell-requires
+    same-length-2
+    same-length-3
+    same-length-4
+    same-length-5
+    returns-2)

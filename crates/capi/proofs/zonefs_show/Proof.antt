@@ -1,0 +1,45 @@
+use mathlib.Core.Path.{_∙_, sym}
+use borrow.Author.Tests.{not-true, not-false}
+use Rattle.capi.specs.Interface.{showWords}
+use borrow.Author.Needs.{needs}
+use Rattle.capi.proofs.zonefs_show.Statement.{statement}
+use Rattle.capi.proofs.zonefs_show.Tie as tie
+
+is-usable-requires : tie.Need-is-usable-requires
+is-usable-requires c κs = search needs
+
+returns : tie.Need-returns
+unfolding showWords
+returns c = let e = sym (c .before .is-usable .ensures .0) ∙ not-true _ (c .if1 .taken) in (simp e, simp e)
+
+mount-from-requires : tie.Need-mount-from-requires
+mount-from-requires c κs = c .before .is-usable .ensures .1 (not-false _ (c .if1 .left)) .0
+
+show-answer-requires : tie.Need-show-answer-requires
+show-answer-requires c κs = search needs
+
+tell-shown-requires : tie.Need-tell-shown-requires
+tell-shown-requires c κs = c .before .before .before .before .is-usable .ensures .1 (not-false _ (c .before .before .before .if1 .left)) .1
+
+same-length : tie.Need-same-length
+same-length c = search needs
+
+returns-2 : tie.Need-returns-2
+unfolding showWords
+returns-2 c = let e = sym (c .before .before .before .before .before .before .before .is-usable .ensures .0) ∙ not-false _ (c .before .before .before .before .before .before .if1 .left) in
+    let t = c .before .before .tell-shown .ensures in
+    let x = c .before .before .before .show-answer .ensures in
+    let m = c .before .before .before .before .before .mount-from .ensures in
+    (simp (e, t .0, x, m), simp (e, t .1, x, m))
+
+pub zonefs-show-spec : {M : Type 1} → statement M
+zonefs-show-spec =
+    tie.close
+    (tie.spec
+    is-usable-requires
+    returns
+    mount-from-requires
+    show-answer-requires
+    tell-shown-requires
+    same-length
+    returns-2)

@@ -1,0 +1,134 @@
+-- A mount value in the words that a caller keeps: where each field stands, which words hold a mount value, and which one.
+use Prim.Native.Nat.{ℕ, zero, suc, _/_, _%_, _^_}
+use mathlib.Core.List.{List, [], _∷_, _++_}
+use mathlib.Core.Bool.{Bool, true, false, cond, not, _&&_}
+use lib.ListN.{length, getD}
+use lib.Seq.{sets}
+use lib.Dec.{leb, ltb, eqb}
+use Rattle.types.specs.declared.Mount.{Mount}
+use Rattle.types.specs.declared.Volume.{Volume}
+use Rattle.types.specs.declared.Held.{Held}
+use Rattle.types.specs.declared.FileKind.{FileKind}
+use Rattle.types.specs.declared.FileKind.the-variants.{Conventional, Sequential}
+use Rattle.types.specs.declared.ErrorPolicy.{ErrorPolicy}
+use Rattle.types.specs.declared.ErrorPolicy.the-variants.{RemountRo, ZoneRo, ZoneOffline, Repair}
+use Rattle.types.specs.declared.CommandKind.{CommandKind}
+use Rattle.types.specs.declared.CommandKind.the-variants as command
+use Rattle.types.specs.declared.Outstanding.{Outstanding}
+use Rattle.types.specs.declared.Outstanding.the-variants.{Idle, Busy}
+use Rattle.types.specs.Codes.{kindCode, policyCode, commandCode}
+use Rattle.wire.specs.Le.{le}
+
+-- ---- the words of a mount value
+
+-- the words of a mount value
+abbrev pub mountLength : ℕ
+mountLength = 16
+
+-- words 0 to 8: what the mount fixes; the uuid as two little-endian numbers of eight bytes
+abbrev pub volumeWords : Volume → List ℕ
+volumeWords v =
+    v .block ∷ v .conventional ∷ v .sequential ∷ v .owner ∷ v .group ∷ v .mode ∷ policyCode (v .policy) ∷ le 8 (v .uuid) 0 ∷ le 8 (v .uuid) 8 ∷ []
+
+-- 1 for yes, 0 for no
+abbrev pub mark : Bool → ℕ
+mark b = cond b 1 0
+
+abbrev pub isHeld : Outstanding → Bool
+isHeld Idle = false
+isHeld (Busy h) = true
+
+-- where nothing is outstanding, all its words are 0
+abbrev pub noHeld : Held
+noHeld = record { kind = Conventional; number = 0; command = record { kind = command.Read; address = 0; length = 0 } }
+
+abbrev pub heldIn : Outstanding → Held
+heldIn Idle = noHeld
+heldIn (Busy h) = h
+
+abbrev pub heldWords : Held → List ℕ
+heldWords h = kindCode (h .kind) ∷ h .number ∷ commandCode (h .command .kind) ∷ h .command .address ∷ h .command .length ∷ []
+
+-- words 9 to 15: the read-only mark, whether a command is outstanding, and which, on which file
+abbrev pub stateWords : Mount → List ℕ
+stateWords m = mark (m .readonly) ∷ mark (isHeld (m .outstanding)) ∷ heldWords (heldIn (m .outstanding))
+
+unfoldable pub mountWords : Mount → List ℕ
+mountWords m = volumeWords (m .volume) ++ stateWords m
+
+-- ---- words put in front of others: the law `written-front` says that they are these, and then what was there
+
+unfoldable pub written : List ℕ → List ℕ → List ℕ
+written words values = sets words 0 values
+
+-- ---- which words hold a mount value
+
+abbrev pub word : List ℕ → ℕ → ℕ
+word w k = getD w k 0
+
+-- a number of 32 bits
+abbrev pub short : ℕ → Bool
+short n = ltb n (2 ^ 32)
+
+abbrev pub goodVolume : List ℕ → Bool
+goodVolume w = short (word w 1) && short (word w 2) && short (word w 3) && short (word w 4) && short (word w 5) && ltb (word w 6) 4
+
+abbrev pub goodState : List ℕ → Bool
+goodState w = ltb (word w 9) 2 && ltb (word w 10) 2 && ltb (word w 11) 2 && short (word w 12) && ltb (word w 13) 5
+
+-- long enough, every number within its width, and every code one of its codes. A block or a count that no mount has is the calls' to refuse.
+unfoldable pub possible : List ℕ → Bool
+possible w = leb mountLength (length w) && (goodVolume w && goodState w)
+
+-- ---- the mount value of words
+
+-- the last n bytes of a number, the lowest first
+unfoldable pub bytesFrom : ℕ → ℕ → List ℕ
+bytesFrom zero x = []
+bytesFrom (suc n) x = x % 256 ∷ bytesFrom n (x / 256)
+
+-- of possible words: the number itself
+abbrev pub shortOf : ℕ → ℕ
+shortOf n = n % 2 ^ 32
+
+abbrev pub isMarked : ℕ → Bool
+isMarked n = not (eqb n 0)
+
+abbrev pub kindFrom : ℕ → FileKind
+kindFrom n = cond (eqb n 0) Conventional Sequential
+
+abbrev pub policyFrom : ℕ → ErrorPolicy
+policyFrom n = cond (eqb n 0) RemountRo (cond (eqb n 1) ZoneRo (cond (eqb n 2) ZoneOffline Repair))
+
+abbrev pub commandFrom : ℕ → CommandKind
+commandFrom n =
+    cond (eqb n 0) command.Read
+    (cond (eqb n 1) command.Write (cond (eqb n 2) command.Reset (cond (eqb n 3) command.Finish command.Flush)))
+
+abbrev pub volumeFrom : List ℕ → Volume
+volumeFrom w =
+    record {
+      block = word w 0;
+      conventional = shortOf (word w 1);
+      sequential = shortOf (word w 2);
+      owner = shortOf (word w 3);
+      group = shortOf (word w 4);
+      mode = shortOf (word w 5);
+      policy = policyFrom (word w 6);
+      uuid = bytesFrom 8 (word w 7) ++ bytesFrom 8 (word w 8);
+    }
+
+abbrev pub heldFrom : List ℕ → Held
+heldFrom w =
+    record {
+      kind = kindFrom (word w 11);
+      number = shortOf (word w 12);
+      command = record { kind = commandFrom (word w 13); address = word w 14; length = word w 15 };
+    }
+
+abbrev pub outstandingFrom : ℕ → Held → Outstanding
+outstandingFrom n h = cond (isMarked n) (Busy h) Idle
+
+-- the mount value that possible words hold: the law `mount-back` says that words put by `mountWords` hold the mount value they were put for
+unfoldable pub mountFrom : List ℕ → Mount
+mountFrom w = record { volume = volumeFrom w; readonly = isMarked (word w 9); outstanding = outstandingFrom (word w 10) (heldFrom w) }

@@ -1,0 +1,194 @@
+/*
+ * zonefs.h: the proved library for C and C++. Link with libcapi.a (see docs/LINKING.md).
+ *
+ * The library keeps nothing: no heap, no globals, no input or output. What it knows of a mounted volume lives in memory
+ * that the caller lends to each call:
+ *
+ *   mount words   ZONEFS_MOUNT_WORDS words of 64 bits, written by zonefs_mount and changed by the calls; keep them as they are
+ *   cnv, seq      a table for the files of each kind, ZONEFS_ROW_WORDS words of 64 bits for each file
+ *   answer words  ZONEFS_ANSWER_WORDS words of 64 bits, overwritten with what the call answers beside its number
+ *
+ * Every slice is lent as a pointer and the number of its elements. The pointer must not be null, also where the number is 0, and must be
+ * aligned for its type; slices that one call is lent must not overlap where one of them is written. Nothing is demanded of what the
+ * memory holds: each function answers for every content, and reads or writes nothing outside the slices. One thread at a time may use
+ * one mount's memory.
+ *
+ * Each function returns one of the numbers below. Where a slice for mount words or answer words is too short, or the mount words hold
+ * no mount value, the number is ZONEFS_IMPOSSIBLE and nothing is written. Otherwise the answer words are written: word 0 is the
+ * number of values, and words 1 to 6 are the values, with 0 after the last.
+ */
+#ifndef ZONEFS_H
+#define ZONEFS_H
+
+#include <stddef.h>
+#include <stdint.h>
+
+#ifdef __cplusplus
+extern "C" {
+#endif
+
+/* The words of a mount value, of a row, and of an answer. */
+#define ZONEFS_MOUNT_WORDS 16
+#define ZONEFS_ROW_WORDS 5
+#define ZONEFS_ANSWER_WORDS 7
+
+/* The most files of a kind, so that tables of this many rows are always long enough. */
+#define ZONEFS_MOST_FILES 1022
+
+/* The bytes of a super block, of a report's header, of a zone record, and the most zones of a report. */
+#define ZONEFS_SUPER_BYTES 4096
+#define ZONEFS_HEADER_BYTES 16
+#define ZONEFS_ZONE_BYTES 64
+#define ZONEFS_MOST_ZONES 1023
+
+/* The numbers that the functions return. */
+enum {
+  ZONEFS_OK = 0,
+  ZONEFS_NO_FILE = 1,             /* no such file or name */
+  ZONEFS_BUSY = 2,                /* a command is outstanding */
+  ZONEFS_READ_ONLY = 3,           /* the mount is read-only */
+  ZONEFS_DENIED = 4,              /* access too low; truncating cnv, or to neither 0 nor capacity */
+  ZONEFS_BEYOND_CAPACITY = 5,     /* offset + length above capacity */
+  ZONEFS_MISPLACED = 6,           /* seq write off the block, or offset other than the size */
+  ZONEFS_FAILED = 7,              /* the disk failed it, and that was digested; one value: the file's new size */
+  ZONEFS_NOTHING_OUTSTANDING = 8, /* completion with nothing outstanding */
+  ZONEFS_BAD_RECORD = 9,          /* the failed completion's zone record doesn't fit; the command stays outstanding */
+  ZONEFS_IMPOSSIBLE = 10,         /* mount value or tables impossible, or words too short */
+  ZONEFS_BAD_BLOCK = 20,          /* block neither 512 nor 4096 */
+  ZONEFS_SUPER_LENGTH = 21,       /* super block: length, magic, checksum */
+  ZONEFS_SUPER_MAGIC = 22,
+  ZONEFS_SUPER_CHECKSUM = 23,
+  ZONEFS_SUPER_FEATURES = 24,     /* features beyond bit 3 */
+  ZONEFS_SUPER_OWNER = 25,        /* uid or gid in use and 0xFFFFFFFF */
+  ZONEFS_SUPER_TAIL = 26,         /* nonzero tail */
+  ZONEFS_BAD_OPTIONS = 27,        /* options */
+  ZONEFS_BAD_REPORT = 28,         /* report header or length */
+  ZONEFS_BAD_ZONE = 29,           /* bad zone; one value: the lowest number of one */
+  ZONEFS_TOO_FEW_ROWS = 30        /* too few rows for either kind */
+};
+
+/* Kinds of files, as an argument and as a value. */
+enum { ZONEFS_CNV = 0, ZONEFS_SEQ = 1 };
+
+/* Commands to the disk, as a value. */
+enum {
+  ZONEFS_COMMAND_READ = 0,
+  ZONEFS_COMMAND_WRITE = 1,
+  ZONEFS_COMMAND_RESET = 2,
+  ZONEFS_COMMAND_FINISH = 3,
+  ZONEFS_COMMAND_FLUSH = 4
+};
+
+/* The condition and the access of a file. Write includes read. */
+enum { ZONEFS_HEALTHY = 0, ZONEFS_ZONE_READ_ONLY = 1, ZONEFS_OFFLINE = 2 };
+enum { ZONEFS_ACCESS_NONE = 0, ZONEFS_ACCESS_READ = 1, ZONEFS_ACCESS_WRITE = 2 };
+
+/* The option errors=, in the mount words. */
+enum { ZONEFS_REMOUNT_RO = 0, ZONEFS_ZONE_RO = 1, ZONEFS_ZONE_OFFLINE = 2, ZONEFS_REPAIR = 3 };
+
+/* The words of a row. */
+enum {
+  ZONEFS_ROW_START = 0,     /* the first sector */
+  ZONEFS_ROW_CAPACITY = 1,  /* in bytes */
+  ZONEFS_ROW_SIZE = 2,      /* in bytes */
+  ZONEFS_ROW_CONDITION = 3,
+  ZONEFS_ROW_ACCESS = 4
+};
+
+/*
+ * The words of a mount value. Words hold none where a number of 32 bits is above 0xFFFFFFFF, a mark above 1, or a code none of its codes;
+ * where nothing is outstanding the words from ZONEFS_MOUNT_HELD_KIND on are written as 0.
+ */
+enum {
+  ZONEFS_MOUNT_BLOCK = 0,
+  ZONEFS_MOUNT_CNV_FILES = 1,     /* 32 bits, as the four after it */
+  ZONEFS_MOUNT_SEQ_FILES = 2,
+  ZONEFS_MOUNT_OWNER = 3,
+  ZONEFS_MOUNT_GROUP = 4,
+  ZONEFS_MOUNT_MODE = 5,
+  ZONEFS_MOUNT_POLICY = 6,        /* ZONEFS_REMOUNT_RO to ZONEFS_REPAIR */
+  ZONEFS_MOUNT_UUID_LOW = 7,      /* bytes 0 to 7 of the uuid, the first lowest */
+  ZONEFS_MOUNT_UUID_HIGH = 8,     /* bytes 8 to 15 */
+  ZONEFS_MOUNT_READ_ONLY = 9,     /* 1 where the mount is read-only */
+  ZONEFS_MOUNT_OUTSTANDING = 10,  /* 1 where a command is outstanding: on which file, and which */
+  ZONEFS_MOUNT_HELD_KIND = 11,
+  ZONEFS_MOUNT_HELD_NUMBER = 12,  /* 32 bits */
+  ZONEFS_MOUNT_HELD_COMMAND = 13,
+  ZONEFS_MOUNT_HELD_ADDRESS = 14,
+  ZONEFS_MOUNT_HELD_LENGTH = 15
+};
+
+/*
+ * Mounts. Reads the block (512 or 4096), the 4,096 bytes of the first sector, the option text (up to 255 bytes, without a final zero) and
+ * the zone report. Writes the rows of the files to the front of both tables, and the mount words.
+ * Returns 0, with two values, the numbers of cnv and of seq files; or 10 (words too short), 20 to 30. Refused by 20 to 30, the tables
+ * are as they were, and the mount words are all 0, with which every call answers 10 and every completion 8.
+ */
+uint64_t zonefs_mount(uint64_t block, const uint8_t *superblock, size_t superblock_bytes, const uint8_t *options,
+                      size_t options_bytes, const uint8_t *report, size_t report_bytes, uint64_t *cnv, size_t cnv_words,
+                      uint64_t *seq, size_t seq_words, uint64_t *mount, size_t mount_words, uint64_t *answer,
+                      size_t answer_words);
+
+/*
+ * Finds a name such as "seq/12", without a final zero. Reads mount words and tables; writes the answer words only.
+ * Returns 0, with two values, the kind and the number of the file; or 1, 10.
+ */
+uint64_t zonefs_find(const uint64_t *mount, size_t mount_words, const uint64_t *cnv, size_t cnv_words, const uint64_t *seq,
+                     size_t seq_words, const uint8_t *name, size_t name_bytes, uint64_t *answer, size_t answer_words);
+
+/*
+ * Shows a file. Reads mount words and tables; writes the answer words only. A kind above 1 is no file's.
+ * Returns 0, with six values, start in sectors, capacity, size, condition, access, and the mode shown; or 1, 10.
+ */
+uint64_t zonefs_show(const uint64_t *mount, size_t mount_words, const uint64_t *cnv, size_t cnv_words, const uint64_t *seq,
+                     size_t seq_words, uint32_t kind, uint32_t number, uint64_t *answer, size_t answer_words);
+
+/*
+ * The calls. Each reads mount words and tables, and writes the mount words and the answer words.
+ * Returns 0 with one value, where it is answered at once: the count, always 0; or 0 with three values, where a command is to be done: the
+ * command, its byte address and its byte length. Such a command is outstanding, until zonefs_complete or zonefs_fail. Or returns 1 to 6, 10,
+ * with no value, and the mount is as it was.
+ */
+uint64_t zonefs_read(uint64_t *mount, size_t mount_words, const uint64_t *cnv, size_t cnv_words, const uint64_t *seq,
+                     size_t seq_words, uint32_t kind, uint32_t number, uint64_t offset, uint64_t length, uint64_t *answer,
+                     size_t answer_words);
+
+uint64_t zonefs_write(uint64_t *mount, size_t mount_words, const uint64_t *cnv, size_t cnv_words, const uint64_t *seq,
+                      size_t seq_words, uint32_t kind, uint32_t number, uint64_t offset, uint64_t length, uint64_t *answer,
+                      size_t answer_words);
+
+/* To the size 0 or to the capacity. */
+uint64_t zonefs_truncate(uint64_t *mount, size_t mount_words, const uint64_t *cnv, size_t cnv_words, const uint64_t *seq,
+                         size_t seq_words, uint32_t kind, uint32_t number, uint64_t size, uint64_t *answer,
+                         size_t answer_words);
+
+uint64_t zonefs_flush(uint64_t *mount, size_t mount_words, const uint64_t *cnv, size_t cnv_words, const uint64_t *seq,
+                      size_t seq_words, uint32_t kind, uint32_t number, uint64_t *answer, size_t answer_words);
+
+/*
+ * The outstanding command was done. Reads and writes mount words and tables (one row at most), and writes the answer words.
+ * Returns 0 with one value, the bytes read or written, else 0; or 8, 10, with nothing changed.
+ */
+uint64_t zonefs_complete(uint64_t *mount, size_t mount_words, uint64_t *cnv, size_t cnv_words, uint64_t *seq,
+                         size_t seq_words, uint64_t *answer, size_t answer_words);
+
+/*
+ * The outstanding command failed. Reads the 64 bytes of the zone's record as it is afterwards; capacity_given is 0 where the record states
+ * no capacity, and anything else where it does. Reads and writes as zonefs_complete does.
+ * Returns 7 with one value, the file's size now, and nothing is outstanding any more; or 8, 9, 10, with nothing changed.
+ */
+uint64_t zonefs_fail(uint64_t *mount, size_t mount_words, uint64_t *cnv, size_t cnv_words, uint64_t *seq, size_t seq_words,
+                     const uint8_t *record, size_t record_bytes, uint32_t capacity_given, uint64_t *answer,
+                     size_t answer_words);
+
+/*
+ * The checksum of bytes: reflected CRC-32, polynomial 0xEDB88320, start all ones, no final inversion. A super block's checksum is that of its
+ * 4,096 bytes with the checksum field, bytes 4 to 7, zero. Reads the bytes only.
+ */
+uint32_t zonefs_checksum(const uint8_t *bytes, size_t count);
+
+#ifdef __cplusplus
+}
+#endif
+
+#endif
