@@ -80,7 +80,7 @@ fn what_makes_a_file_quiet() {
     assert_eq!(first(&run), (0, Condition::Healthy, Access::Write));
 }
 
-/// The check notices a drawer that keeps a wrong size, access or condition, or moves another row.
+/// The check notices a player that keeps a wrong size, access or condition, or moves another row.
 #[test]
 fn the_check_can_fail() {
     let wrong: [fn(&mut Volume); 4] = [

@@ -56,7 +56,7 @@ pub fn report(flags: u32, zones: &[Zone]) -> Vec<u8> {
     bytes
 }
 
-/// The five zones of the clerk's sheet.
+/// The five zones of the paper's worked example.
 pub fn sheet_zones() -> Vec<Zone> {
     vec![
         zone(0, 524288, 0, 1, 0, 524288),

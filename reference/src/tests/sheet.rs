@@ -1,4 +1,4 @@
-//! The clerk's sheet.
+//! The paper's worked example, whole.
 
 use super::*;
 use crate::calls::Reply::{Done, Issued};
