@@ -105,7 +105,7 @@ openTurn b cnv seq =
 
 -- ---- a tape
 
--- "stop", or the tape is at its end
+-- no record said "stop", and the tape goes on: after `MO` it may end between records, and nothing is printed for that
 abbrev pub goesFurther : List ℕ → Rest → Bool
 goesFurther b r = r .more && ltb (r .next) (length b)
 
@@ -119,7 +119,7 @@ textFrom (suc n) b r =
 unfoldable pub textWith : List ℕ → List ℕ → List ℕ → List ℕ
 textWith b cnv seq = openTurn b cnv seq .line ++ textFrom (length b) b (openTurn b cnv seq .rest)
 
--- a table for as many files as a kind can have
+-- a table with room for as many files as a kind can have
 abbrev pub noRows : List ℕ
 noRows = replicate (rowWidth * mostFiles) 0
 

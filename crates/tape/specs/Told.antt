@@ -3,13 +3,13 @@ use Prim.Native.Nat.{ℕ, _+_, _≤_}
 use mathlib.Core.List.{List}
 use mathlib.Core.Path.{_≡_}
 use lib.ListN.{length}
-use Rattle.tape.specs.declared.records.Record.{Record}
-use Rattle.tape.specs.declared.records.Record.the-variants.{OnFile, Good, Failed, Broken}
 use Rattle.types.specs.declared.Mount.{Mount}
 use Rattle.types.specs.declared.MountOutcome.{MountOutcome}
 use Rattle.mount.specs.Mount.{Mounting}
+use Rattle.tape.specs.declared.records.Record.{Record}
+use Rattle.tape.specs.declared.records.Record.the-variants.{OnFile, Good, Failed, Broken}
 use Rattle.tape.specs.declared.Turned.{Turned}
-use Rattle.tape.specs.Records.{callBytes, goodBytes, failedBytes, opens, mountPlace, runPlace}
+use Rattle.tape.specs.Records.{callBytes, goodBytes, failedBytes, mountPlace, runPlace}
 use Rattle.tape.specs.Put.{Put}
 use Rattle.tape.specs.Tape.{State, Rest, Turn}
 
