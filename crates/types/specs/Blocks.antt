@@ -1,7 +1,7 @@
--- Sectors and blocks: "sectors of 512 bytes", "Block: 512 or 4,096".
-use Prim.Native.Nat.{ℕ, _*_, _/_, _%_}
+-- Sectors and blocks: "sectors of 512 bytes", "Block: 512 or 4,096"; and how far a disk and its files go.
+use Prim.Native.Nat.{ℕ, _+_, _*_, _/_, _%_, _^_}
 use mathlib.Core.Bool.{Bool, _&&_, _||_}
-use lib.Dec.{ltb, eqb}
+use lib.Dec.{leb, ltb, eqb}
 
 -- "sectors of 512 bytes"
 abbrev pub sectorBytes : ℕ
@@ -26,3 +26,11 @@ onBlock unit n = eqb (n % unit) 0
 -- "nonzero multiples of the block"
 abbrev pub wholeBlocks : ℕ → ℕ → Bool
 wholeBlocks unit n = ltb 0 n && onBlock unit n
+
+-- "end ≤ 2^40": so many sectors from a start
+abbrev pub endsInReach : ℕ → ℕ → Bool
+endsInReach start sectors = leb (start + sectors) (2 ^ 40)
+
+-- "more files of either kind than .. 1,022": the most that there can be
+abbrev pub mostFiles : ℕ
+mostFiles = 1022

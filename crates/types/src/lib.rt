@@ -1,10 +1,16 @@
 // The values that every layer speaks of: files and their rows, commands, the mount, refusals and answers.
 ghost use mathlib.Core.Path.{_≡_};
 ghost use Prim.Native.Nat.{_<_};
-ghost use Rattle.types.specs.Blocks.{goodBlock};
+ghost use Rattle.types.specs.Blocks.{goodBlock, endsInReach};
 ghost use Rattle.types.specs.Codes.{kindCode, conditionCode, accessCode, policyCode, commandCode};
 ghost use Rattle.types.specs.Numbers.{refusalNumber, answerNumber, mountNumber, findNumber, showNumber};
 ghost use Rattle.types.specs.Mounts.{emptyMount, holding, cleared, readOnly};
+
+// The most files of a kind.
+pub const MOST_FILES: u32 = 1022;
+
+// 2 ^ 40: every zone and every file ends by this sector.
+const LAST_SECTOR: u64 = 1099511627776;
 
 pub enum FileKind {
     Conventional,
@@ -164,6 +170,17 @@ pub fn good_block(block: u64) -> bool
     ensures { λ r. ⌜ r ≡ goodBlock block ⌝ }
 {
     (block == 512) | (block == 4096)
+}
+
+// So many sectors from `start` end in time. Compared with what is left up to the last sector, so that no sum wraps.
+pub fn ends_in_reach(start: u64, sectors: u64) -> bool
+    ensures { λ r. ⌜ r ≡ endsInReach start sectors ⌝ }
+{
+    if start <= LAST_SECTOR {
+        sectors <= LAST_SECTOR - start
+    } else {
+        false
+    }
 }
 
 pub fn kind_code(k: FileKind) -> u64

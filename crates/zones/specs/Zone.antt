@@ -1,13 +1,13 @@
 -- A zone record, when it is good input, and what it says of its zone. Numbers of a record are in sectors of 512 bytes.
 -- Everywhere `unit` is the block in sectors.
-use Prim.Native.Nat.{ℕ, _+_, _-_, _^_}
+use Prim.Native.Nat.{ℕ, _+_, _-_}
 use mathlib.Core.List.{List}
 use mathlib.Core.Bool.{Bool, true, false, cond, not, _&&_, _||_}
 use lib.ListN.{getD}
 use lib.Dec.{leb, eqb}
 use Rattle.types.specs.declared.Condition.{Condition}
 use Rattle.types.specs.declared.Condition.the-variants.{Healthy, ReadOnly, Offline}
-use Rattle.types.specs.Blocks.{bytesOf, onBlock, wholeBlocks}
+use Rattle.types.specs.Blocks.{bytesOf, onBlock, wholeBlocks, endsInReach}
 use Rattle.wire.specs.Le.{le}
 use Rattle.zones.specs.declared.Zone.{Zone}
 
@@ -67,7 +67,7 @@ goodCapacity unit z =
 
 -- "end ≤ 2^40"
 abbrev pub goodEnd : Zone → Bool
-goodEnd z = leb (z .start + z .length) (2 ^ 40)
+goodEnd z = endsInReach (z .start) (z .length)
 
 abbrev pub goodType : Zone → Bool
 goodType z = conventional z || sequential z

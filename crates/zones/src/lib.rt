@@ -34,9 +34,6 @@ pub const ZONE_BYTES: usize = 64;
 
 pub const MOST_ZONES: usize = 1023;
 
-// No zone ends past this sector: 2^40.
-const LAST_SECTOR: u64 = 1099511627776;
-
 // The block in sectors.
 pub fn block_sectors(block: u64) -> u64
     ensures { λ r. ⌜ r ≡ blockSectors block ⌝ }
@@ -151,15 +148,10 @@ fn good_capacity(z: Zone, unit: u64) -> bool
     whole & (z.capacity <= z.length) & (!full | (z.capacity == z.length))
 }
 
-// Compared with what is left up to the last sector, so that no sum wraps.
 fn good_end(z: Zone) -> bool
     ensures { λ r. ⌜ r ≡ goodEnd z ⌝ }
 {
-    if z.start <= LAST_SECTOR {
-        z.length <= LAST_SECTOR - z.start
-    } else {
-        false
-    }
+    types::ends_in_reach(z.start, z.length)
 }
 
 fn good_type(z: Zone) -> bool
