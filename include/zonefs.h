@@ -144,7 +144,7 @@ uint64_t zonefs_show(const uint64_t *mount, size_t mount_words, const uint64_t *
                      size_t seq_words, uint32_t kind, uint32_t number, uint64_t *answer, size_t answer_words);
 
 /*
- * The calls. Each reads mount words and tables, and writes the mount words and the answer words.
+ * The calls. Each reads mount words and tables, and writes the answer words and, of the mount words, those from ZONEFS_MOUNT_READ_ONLY on.
  * Returns 0 with one value, where it is answered at once: the count, always 0; or 0 with three values, where a command is to be done: the
  * command, its byte address and its byte length. Such a command is outstanding, until zonefs_complete or zonefs_fail. Or returns 1 to 6, 10,
  * with no value, and the mount is as it was.
@@ -166,7 +166,8 @@ uint64_t zonefs_flush(uint64_t *mount, size_t mount_words, const uint64_t *cnv, 
                       size_t seq_words, uint32_t kind, uint32_t number, uint64_t *answer, size_t answer_words);
 
 /*
- * The outstanding command was done. Reads and writes mount words and tables (one row at most), and writes the answer words.
+ * The outstanding command was done. Reads mount words and tables, and writes one row of a table at most, the answer words and, of the mount
+ * words, those from ZONEFS_MOUNT_READ_ONLY on.
  * Returns 0 with one value, the bytes read or written, else 0; or 8, 10, with nothing changed.
  */
 uint64_t zonefs_complete(uint64_t *mount, size_t mount_words, uint64_t *cnv, size_t cnv_words, uint64_t *seq,

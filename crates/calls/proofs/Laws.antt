@@ -3,7 +3,7 @@
 use Prim.Native.Nat.{ℕ, _+_, _/_, _%_, _^_, _≤_, _<_}
 use native.Mathlib.Omega.{arith}
 use mathlib.Core.Path.{_≡_, refl, sym}
-use mathlib.Core.Bool.{Bool, true, false, not, _&&_, cond, false≢true}
+use mathlib.Core.Bool.{Bool, true, false, not, _&&_, _||_, cond, false≢true}
 use mathlib.Core.List.{List}
 use lib.ListN.{length}
 use lib.Dec.{leb, ltb, eqb}
@@ -35,16 +35,20 @@ use Rattle.calls.specs.declared.Lookup.{Lookup}
 use Rattle.calls.specs.declared.Lookup.the-variants as lookup
 use Rattle.calls.specs.declared.Checked.{Checked}
 use Rattle.calls.specs.declared.Checked.the-variants as checked
-use Rattle.calls.specs.Checks.{mostFiles, filesFit, countsFit, ofKind, filesOf, rowIn, lookupOf, means, isConventional, isReadOnly, isOffline, isNone, isWrite, full, soundRow, soundSlot, foundRow, fileOf, isBusy}
+use Rattle.calls.specs.Checks.{mostFiles, filesFit, countsFit, ofKind, filesOf, rowIn, lookupOf, means, isConventional, isReadOnly, isOffline, isNone, isWrite, allowed, full, soundRow, soundSlot, foundRow, fileOf, isBusy}
 use Rattle.calls.specs.Calls.{refuse, atOnce, answerOf, onFile, answered}
 use Rattle.calls.specs.Told.{Sound, Reached, Passed}
 
 -- 10 (COUNTS)
 
 module _ (v : Volume) (c s : ℕ) (h : countsFit v c s ≡ true) where
+  pub counts-good : goodBlock (v .block) ≡ true
+  unfolding countsFit
+  counts-good = and-right (filesFit (v .conventional) c && filesFit (v .sequential) s) _ h
+
   pub counts-block : IsBlock (v .block)
   unfolding countsFit
-  counts-block = is-block (v .block) (and-right (filesFit (v .conventional) c && filesFit (v .sequential) s) _ h)
+  counts-block = is-block (v .block) (counts-good)
 
   pub counts-files : (k : FileKind) → filesFit (filesOf k v) (ofKind k c s) ≡ true
   unfolding countsFit
@@ -57,13 +61,29 @@ module _ (v : Volume) (c s : ℕ) (h : countsFit v c s ≡ true) where
   pub counts-most : (k : FileKind) → filesOf k v ≤ mostFiles
   counts-most k = leb-true (filesOf k v) mostFiles (and-right (leb (filesOf k v) (rowsLent (ofKind k c s))) _ (counts-files k))
 
-  -- a block is at least a sector
-  pub counts-sector : sectorBytes ≤ v .block
-  counts-sector = least (counts-block)
-    where
-      least : {b : ℕ} → IsBlock b → 512 ≤ b
-      least small = omega arith
-      least large = omega arith
+-- ON A BLOCK: a block is one of two
+
+-- each has a sector at least
+pub block-some : (block : ℕ) → goodBlock block ≡ true → 1 ≤ blockSectors block
+block-some block h = by (is-block block h)
+  where
+    by : {b : ℕ} → IsBlock b → 1 ≤ blockSectors b
+    by small = omega arith
+    by large = omega arith
+
+pub on-large : (block n : ℕ) → goodBlock block ≡ true → (block ≡ 512 → ⊥) → onBlock 4096 n ≡ onBlock block n
+on-large block n h other = by (is-block block h) other
+  where
+    by : {b : ℕ} → IsBlock b → (b ≡ 512 → ⊥) → onBlock 4096 n ≡ onBlock b n
+    by small other = absurd (other refl)
+    by large other = refl
+
+pub sectors-on : (block n : ℕ) → goodBlock block ≡ true → eqb block 512 || onBlock 8 n ≡ onBlock (blockSectors block) n
+sectors-on block n h = by (is-block block h)
+  where
+    by : {b : ℕ} → IsBlock b → eqb b 512 || onBlock 8 n ≡ onBlock (blockSectors b) n
+    by small = sym (eq-eqb (n % 1) 0 (omega arith))
+    by large = refl
 
 -- 10 (ROW)
 
@@ -110,6 +130,32 @@ is-conventional k e = rw e
 conventional-is : (k : FileKind) → isConventional k ≡ true → k ≡ Conventional
 conventional-is Conventional h = refl
 conventional-is Sequential h = absurd (false≢true h)
+
+-- what each access allows
+and-true : (b : Bool) → b ≡ b && true
+and-true true = refl
+and-true false = refl
+
+pub allowed-none : (c : Condition) (size : ℕ) → eqb size 0 ≡ allowed c access.Nothing size
+allowed-none condition.Healthy size = and-true (eqb size 0)
+allowed-none condition.ReadOnly size = and-true (eqb size 0)
+allowed-none condition.Offline size = and-true (eqb size 0)
+
+pub allowed-read : (c : Condition) (size : ℕ) → not (isOffline c) ≡ allowed c access.Read size
+allowed-read condition.Healthy size = refl
+allowed-read condition.ReadOnly size = refl
+allowed-read condition.Offline size = refl
+
+pub allowed-write : (c : Condition) (size : ℕ) → not (isOffline c) && not (isReadOnly c) ≡ allowed c access.Write size
+allowed-write condition.Healthy size = refl
+allowed-write condition.ReadOnly size = refl
+allowed-write condition.Offline size = refl
+
+-- a conventional file without access, or a full one
+pub full-conventional : (a : Access) (size capacity : ℕ) → isNone a || eqb size capacity ≡ full Conventional a size capacity
+full-conventional access.Nothing size capacity = refl
+full-conventional access.Read size capacity = refl
+full-conventional access.Write size capacity = refl
 
 module _ (block : ℕ) (k : FileKind) (r : Row) where
   pub sound-row : soundRow block k r ≡ true → Sound block k r

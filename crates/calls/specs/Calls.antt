@@ -2,7 +2,9 @@
 use Prim.Native.Nat.{ℕ, _+_, _-_, min}
 use mathlib.Core.List.{List}
 use mathlib.Core.Bool.{Bool, true, false, cond, not, _&&_, _||_}
+use lib.ListN.{length}
 use lib.Dec.{eqb, ltb}
+use Rattle.types.specs.declared.Volume.{Volume}
 use Rattle.types.specs.declared.Mount.{Mount}
 use Rattle.types.specs.declared.Row.{Row}
 use Rattle.types.specs.declared.FileKind.{FileKind}
@@ -18,10 +20,11 @@ use Rattle.types.specs.declared.Answer.the-variants.{Refused, Done, Issue}
 use Rattle.types.specs.declared.Outcome.{Outcome}
 use Rattle.types.specs.declared.Call.{Call}
 use Rattle.types.specs.Blocks.{bytesOf, onBlock}
+use Rattle.types.specs.Codes.{kindFrom}
 use Rattle.types.specs.Mounts.{holding}
 use Rattle.calls.specs.declared.Checked.{Checked}
 use Rattle.calls.specs.declared.Checked.the-variants as checked
-use Rattle.calls.specs.Checks.{isNone, isWrite, isBusy, fileOf}
+use Rattle.calls.specs.Checks.{countsFit, isNone, isWrite, isBusy, fileOf}
 
 -- ---- a chain of checks
 
@@ -139,3 +142,16 @@ outcomeOf m cnv seq k i x = settled m k i (answered m cnv seq k i x)
 -- "All but 7 change nothing."
 abbrev pub refusedWith : Mount → Refusal → Outcome
 refusedWith m x = record { answer = Refused x; mount = m }
+
+-- ---- a kind that is given as a number: "kind byte 0 cnv or 1 seq", "a kind above 1 answers 1"
+
+abbrev pub isKind : ℕ → Bool
+isKind n = ltb n 2
+
+-- 10 (counts), 1
+abbrev pub noKind : Volume → ℕ → ℕ → Refusal
+noKind v cnv seq = cond (countsFit v cnv seq) refusal.NoFile refusal.Impossible
+
+unfoldable pub outcomeBy : Mount → List ℕ → List ℕ → ℕ → ℕ → Call → Outcome
+outcomeBy m cnv seq n i x =
+    cond (isKind n) (outcomeOf m cnv seq (kindFrom n) i x) (refusedWith m (noKind (m .volume) (length cnv) (length seq)))

@@ -1,6 +1,6 @@
 -- The checks that all calls share: "Calls check in the order 10 (counts), 1, 10 (row), 2, then as below; finding a name or showing a row
 -- stops before 2."
-use Prim.Native.Nat.{ℕ, _+_, _/_, _^_}
+use Prim.Native.Nat.{ℕ, _/_}
 use mathlib.Core.List.{List}
 use mathlib.Core.Bool.{Bool, true, false, cond, not, _&&_, _||_}
 use lib.ListN.{length}
@@ -17,7 +17,7 @@ use Rattle.types.specs.declared.Refusal.{Refusal}
 use Rattle.types.specs.declared.Refusal.the-variants as refusal
 use Rattle.types.specs.declared.Outstanding.{Outstanding}
 use Rattle.types.specs.declared.Outstanding.the-variants.{Idle, Busy}
-use Rattle.types.specs.Blocks.{sectorBytes, blockSectors, goodBlock, onBlock, wholeBlocks}
+use Rattle.types.specs.Blocks.{sectorBytes, blockSectors, goodBlock, onBlock, wholeBlocks, endsInReach}
 use Rattle.table.specs.declared.Slot.{Slot}
 use Rattle.table.specs.declared.Slot.the-variants as slot
 use Rattle.table.specs.Rows.{rowsLent, rowAt}
@@ -89,7 +89,7 @@ isWrite access.Write = true
 -- "start and capacity nonzero block multiples, start + capacity ≤ 2^40 sectors"
 abbrev pub placed : ℕ → ℕ → ℕ → Bool
 placed block start capacity =
-    wholeBlocks (blockSectors block) start && wholeBlocks block capacity && leb (start + capacity / sectorBytes) (2 ^ 40)
+    wholeBlocks (blockSectors block) start && wholeBlocks block capacity && endsInReach start (capacity / sectorBytes)
 
 -- "size a block multiple ≤ capacity"
 abbrev pub sized : ℕ → ℕ → ℕ → Bool

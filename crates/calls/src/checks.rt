@@ -1,12 +1,11 @@
 // The checks that all calls share: the counts, the lookup of a file, and its row.
 ghost use mathlib.Core.Path.{_≡_};
 ghost use mathlib.Core.Bool.{true};
-ghost use Prim.Native.Nat.{_+_, _/_, _^_, _≤_};
+ghost use Prim.Native.Nat.{_≤_};
 ghost use lib.ListN.{length};
-ghost use lib.Dec.{leb};
-ghost use Rattle.types.specs.Blocks.{sectorBytes, onBlock, wholeBlocks};
+ghost use Rattle.types.specs.Blocks.{goodBlock, blockSectors, onBlock};
 ghost use Rattle.table.specs.Rows.{rowsLent};
-ghost use Rattle.calls.specs.Checks.{filesFit, countsFit, rowIn, lookupOf, isConventional, isReadOnly, isOffline, isNone, isWrite, placed, sized, allowed, full, soundRow, soundSlot};
+ghost use Rattle.calls.specs.Checks.{filesFit, countsFit, rowIn, lookupOf, isReadOnly, isOffline, isNone, isWrite, placed, sized, allowed, full, soundRow, soundSlot};
 ghost use Rattle.calls.specs.Told.{Ends};
 use crate::Checked;
 use crate::Lookup;
@@ -21,9 +20,6 @@ use types::Volume;
 // The most files of a kind.
 pub const MOST_FILES: u32 = 1022;
 
-// 2 ^ 40: every file ends by this sector.
-const LAST_SECTOR: u64 = 1099511627776;
-
 fn files_fit(files: u32, words: usize) -> bool
     ensures { λ r. ⌜ r ≡ filesFit files words ⌝ }
 {
@@ -33,7 +29,7 @@ fn files_fit(files: u32, words: usize) -> bool
 // Check 10, of the counts: no more files of either kind than rows lent or than any mount has, and a block that is one.
 pub fn counts_fit(v: Volume, cnv: usize, seq: usize) -> bool
     ensures { λ r. ⌜ r ≡ countsFit v cnv seq ⌝ }
-    ensures { λ r. ⌜ (r ≡ true → sectorBytes ≤ v .block) ⌝ }
+    ensures { λ r. ⌜ (r ≡ true → goodBlock (v .block) ≡ true) ⌝ }
 {
     files_fit(v.conventional, cnv) & files_fit(v.sequential, seq) & types::good_block(v.block)
 }
@@ -57,15 +53,6 @@ pub fn lookup(v: Volume, cnv: &[u64], seq: &[u64], kind: FileKind, number: u32) 
     match kind {
         FileKind::Conventional => row_in(cnv, v.conventional, number),
         FileKind::Sequential => row_in(seq, v.sequential, number),
-    }
-}
-
-pub fn is_conventional(k: FileKind) -> bool
-    ensures { λ r. ⌜ r ≡ isConventional k ⌝ }
-{
-    match k {
-        FileKind::Conventional => true,
-        FileKind::Sequential => false,
     }
 }
 
@@ -109,42 +96,37 @@ pub fn is_write(a: Access) -> bool
     }
 }
 
-pub fn on_block(unit: u64, n: u64) -> bool
-    requires { ⌜ 1 ≤ unit ⌝ }
-    ensures { λ r. ⌜ r ≡ onBlock unit n ⌝ }
+// On a block, of a number of bytes. A block is one of two: with both written out, no number is divided.
+pub fn on_block(block: u64, n: u64) -> bool
+    requires { ⌜ goodBlock block ≡ true ⌝ }
+    ensures { λ r. ⌜ r ≡ onBlock block n ⌝ }
 {
-    n % unit == 0
-}
-
-fn whole_blocks(unit: u64, n: u64) -> bool
-    requires { ⌜ 1 ≤ unit ⌝ }
-    ensures { λ r. ⌜ r ≡ wholeBlocks unit n ⌝ }
-{
-    (0 < n) & on_block(unit, n)
-}
-
-// So many sectors from `start` end by the last sector, without their sum, which could wrap.
-fn ends_by(start: u64, sectors: u64) -> bool
-    ensures { λ r. ⌜ r ≡ leb (start + sectors) (2 ^ 40) ⌝ }
-{
-    if start <= LAST_SECTOR {
-        sectors <= LAST_SECTOR - start
+    if block == 512 {
+        n % 512 == 0
     } else {
-        false
+        n % 4096 == 0
     }
 }
 
+// The same of a number of sectors: a block of 512 bytes is one of them.
+fn sectors_on_block(block: u64, n: u64) -> bool
+    requires { ⌜ goodBlock block ≡ true ⌝ }
+    ensures { λ r. ⌜ r ≡ onBlock (blockSectors block) n ⌝ }
+{
+    (block == 512) | (n % 8 == 0)
+}
+
 fn is_placed(block: u64, start: u64, capacity: u64) -> bool
-    requires { ⌜ sectorBytes ≤ block ⌝ }
+    requires { ⌜ goodBlock block ≡ true ⌝ }
     ensures { λ r. ⌜ r ≡ placed block start capacity ⌝ }
 {
-    whole_blocks(block / 512, start)
-        & whole_blocks(block, capacity)
-        & ends_by(start, capacity / 512)
+    let starts = (0 < start) & sectors_on_block(block, start);
+    let whole = (0 < capacity) & on_block(block, capacity);
+    starts & whole & types::ends_in_reach(start, capacity / 512)
 }
 
 fn is_sized(block: u64, capacity: u64, size: u64) -> bool
-    requires { ⌜ sectorBytes ≤ block ⌝ }
+    requires { ⌜ goodBlock block ≡ true ⌝ }
     ensures { λ r. ⌜ r ≡ sized block capacity size ⌝ }
 {
     on_block(block, size) & (size <= capacity)
@@ -153,19 +135,25 @@ fn is_sized(block: u64, capacity: u64, size: u64) -> bool
 fn is_allowed(c: Condition, a: Access, size: u64) -> bool
     ensures { λ r. ⌜ r ≡ allowed c a size ⌝ }
 {
-    let none = is_none(a);
-    (!is_offline(c) | none) & (!none | (size == 0)) & (!is_readonly(c) | !is_write(a))
+    match a {
+        Access::Nothing => size == 0,
+        Access::Read => !is_offline(c),
+        Access::Write => !is_offline(c) & !is_readonly(c),
+    }
 }
 
 fn is_full(k: FileKind, a: Access, size: u64, capacity: u64) -> bool
     ensures { λ r. ⌜ r ≡ full k a size capacity ⌝ }
 {
-    !(is_conventional(k) & !is_none(a)) | (size == capacity)
+    match k {
+        FileKind::Conventional => is_none(a) | (size == capacity),
+        FileKind::Sequential => true,
+    }
 }
 
 // Check 10, of a row.
 pub fn sound_row(block: u64, kind: FileKind, row: Row) -> bool
-    requires { ⌜ sectorBytes ≤ block ⌝ }
+    requires { ⌜ goodBlock block ≡ true ⌝ }
     ensures { λ r. ⌜ r ≡ soundRow block kind row ⌝ }
 {
     let c = row.condition;
@@ -178,7 +166,7 @@ pub fn sound_row(block: u64, kind: FileKind, row: Row) -> bool
 
 // Check 10, of a file that was found.
 pub fn sound_slot(block: u64, kind: FileKind, slot: Slot) -> Checked
-    requires { ⌜ sectorBytes ≤ block ⌝ }
+    requires { ⌜ goodBlock block ≡ true ⌝ }
     ensures { λ r. ⌜ r ≡ soundSlot block kind slot ⌝ }
     ensures { λ r. ⌜ Ends r ⌝ }
 {

@@ -4,11 +4,11 @@ pub mod names; // what a name says
 pub mod rows; // what each call answers on its row
 
 ghost use mathlib.Core.Path.{_≡_};
-ghost use Prim.Native.Nat.{_≤_};
+ghost use mathlib.Core.Bool.{true};
 ghost use Rattle.types.specs.declared.Call.{Call};
-ghost use Rattle.types.specs.Blocks.{sectorBytes};
+ghost use Rattle.types.specs.Blocks.{goodBlock};
 ghost use Rattle.calls.specs.Checks.{soundSlot, isBusy};
-ghost use Rattle.calls.specs.Calls.{onFile, settled, outcomeOf, refusedWith};
+ghost use Rattle.calls.specs.Calls.{onFile, settled, outcomeOf, refusedWith, noKind, outcomeBy};
 ghost use Rattle.calls.specs.Names.{foundFile, findOf};
 ghost use Rattle.calls.specs.Show.{lessWriting, modeShown, shown, showOf};
 ghost use Rattle.calls.specs.Told.{Ends};
@@ -25,6 +25,7 @@ use types::Outstanding;
 use types::Refusal;
 use types::Row;
 use types::ShowAnswer;
+use types::Volume;
 
 // What a lookup finds: a file's row as its words say, or that there is no such file.
 pub enum Lookup {
@@ -125,7 +126,7 @@ fn is_busy(o: Outstanding) -> bool
 
 // Check 2, and then the call on its row.
 fn on_file(m: Mount, kind: FileKind, file: Checked, x: Call) -> Answer
-    requires { ⌜ (sectorBytes ≤ m .volume .block) × Ends file ⌝ }
+    requires { ⌜ (goodBlock (m .volume .block) ≡ true) × Ends file ⌝ }
     ensures { λ r. ⌜ r ≡ onFile m kind file x ⌝ }
 {
     match file {
@@ -173,12 +174,26 @@ fn refused(m: Mount, x: Refusal) -> Outcome
 
 // A call on a file that was found: checks 10 (row) and 2, and then as its row says.
 fn call_on(m: Mount, kind: FileKind, number: u32, slot: Slot, x: Call) -> Outcome
-    requires { ⌜ sectorBytes ≤ m .volume .block ⌝ }
+    requires { ⌜ goodBlock (m .volume .block) ≡ true ⌝ }
     ensures { λ r. ⌜ r ≡ settled m kind number (onFile m kind (soundSlot (m .volume .block) kind slot) x) ⌝ }
 {
     let v = m.volume;
     let file = checks::sound_slot(v.block, kind, slot);
     settle(m, kind, number, on_file(m, kind, file, x))
+}
+
+// A call on a file: 10 (counts), 1, and then as of the file. One row is read, however many there are.
+pub fn call(m: Mount, cnv: &[u64], seq: &[u64], kind: FileKind, number: u32, x: Call) -> Outcome
+    ensures { λ r. ⌜ r ≡ outcomeOf m (now (cnv .entry)) (now (seq .entry)) kind number x ⌝ }
+{
+    let v = m.volume;
+    if !checks::counts_fit(v, cnv.len(), seq.len()) {
+        return refused(m, Refusal::Impossible);
+    }
+    let Lookup::Found(slot) = checks::lookup(v, cnv, seq, kind, number) else {
+        return refused(m, Refusal::NoFile);
+    };
+    call_on(m, kind, number, slot, x)
 }
 
 pub fn read(
@@ -192,14 +207,7 @@ pub fn read(
 ) -> Outcome
     ensures { λ r. ⌜ r ≡ outcomeOf m (now (cnv .entry)) (now (seq .entry)) kind number (Call.Read offset length) ⌝ }
 {
-    let v = m.volume;
-    if !checks::counts_fit(v, cnv.len(), seq.len()) {
-        return refused(m, Refusal::Impossible);
-    }
-    let Lookup::Found(slot) = checks::lookup(v, cnv, seq, kind, number) else {
-        return refused(m, Refusal::NoFile);
-    };
-    call_on(m, kind, number, slot, Call::Read(offset, length))
+    call(m, cnv, seq, kind, number, Call::Read(offset, length))
 }
 
 pub fn write(
@@ -213,14 +221,7 @@ pub fn write(
 ) -> Outcome
     ensures { λ r. ⌜ r ≡ outcomeOf m (now (cnv .entry)) (now (seq .entry)) kind number (Call.Write offset length) ⌝ }
 {
-    let v = m.volume;
-    if !checks::counts_fit(v, cnv.len(), seq.len()) {
-        return refused(m, Refusal::Impossible);
-    }
-    let Lookup::Found(slot) = checks::lookup(v, cnv, seq, kind, number) else {
-        return refused(m, Refusal::NoFile);
-    };
-    call_on(m, kind, number, slot, Call::Write(offset, length))
+    call(m, cnv, seq, kind, number, Call::Write(offset, length))
 }
 
 pub fn truncate(
@@ -233,25 +234,34 @@ pub fn truncate(
 ) -> Outcome
     ensures { λ r. ⌜ r ≡ outcomeOf m (now (cnv .entry)) (now (seq .entry)) kind number (Call.Truncate target) ⌝ }
 {
-    let v = m.volume;
-    if !checks::counts_fit(v, cnv.len(), seq.len()) {
-        return refused(m, Refusal::Impossible);
-    }
-    let Lookup::Found(slot) = checks::lookup(v, cnv, seq, kind, number) else {
-        return refused(m, Refusal::NoFile);
-    };
-    call_on(m, kind, number, slot, Call::Truncate(target))
+    call(m, cnv, seq, kind, number, Call::Truncate(target))
 }
 
 pub fn flush(m: Mount, cnv: &[u64], seq: &[u64], kind: FileKind, number: u32) -> Outcome
     ensures { λ r. ⌜ r ≡ outcomeOf m (now (cnv .entry)) (now (seq .entry)) kind number Call.Flush ⌝ }
 {
-    let v = m.volume;
-    if !checks::counts_fit(v, cnv.len(), seq.len()) {
-        return refused(m, Refusal::Impossible);
+    call(m, cnv, seq, kind, number, Call::Flush)
+}
+
+// The refusal of a number that is no kind.
+pub fn no_kind(v: Volume, cnv: usize, seq: usize) -> Refusal
+    ensures { λ r. ⌜ r ≡ noKind v cnv seq ⌝ }
+{
+    if checks::counts_fit(v, cnv, seq) {
+        Refusal::NoFile
+    } else {
+        Refusal::Impossible
     }
-    let Lookup::Found(slot) = checks::lookup(v, cnv, seq, kind, number) else {
-        return refused(m, Refusal::NoFile);
-    };
-    call_on(m, kind, number, slot, Call::Flush)
+}
+
+// A call on a file whose kind is given as a number.
+pub fn call_by(m: Mount, cnv: &[u64], seq: &[u64], kind: u64, number: u32, x: Call) -> Outcome
+    ensures { λ r. ⌜ r ≡ outcomeBy m (now (cnv .entry)) (now (seq .entry)) kind number x ⌝ }
+{
+    if kind < 2 {
+        call(m, cnv, seq, types::kind_from(kind), number, x)
+    } else {
+        let v = m.volume;
+        refused(m, no_kind(v, cnv.len(), seq.len()))
+    }
 }

@@ -1,8 +1,8 @@
 // What each call answers on its row, past the checks that all calls share.
 ghost use mathlib.Core.Path.{_≡_};
-ghost use mathlib.Core.Bool.{false};
+ghost use mathlib.Core.Bool.{true, false};
 ghost use Prim.Native.Nat.{_+_, _/_, _^_, _≤_};
-ghost use Rattle.types.specs.Blocks.{sectorBytes};
+ghost use Rattle.types.specs.Blocks.{sectorBytes, goodBlock};
 ghost use Rattle.calls.specs.Calls.{unreadable, unwritable, badTarget, beyond, misplaced, commandOf, fileCommand, readCount, transfer, readRow, writeRow, truncateRow, flushRow, answerOf};
 use crate::checks;
 use types::Access;
@@ -49,7 +49,7 @@ fn is_beyond(capacity: u64, offset: u64, length: u64) -> bool
 }
 
 fn is_misplaced(kind: FileKind, block: u64, size: u64, offset: u64, length: u64) -> bool
-    requires { ⌜ sectorBytes ≤ block ⌝ }
+    requires { ⌜ goodBlock block ≡ true ⌝ }
     ensures { λ r. ⌜ r ≡ misplaced kind block size offset length ⌝ }
 {
     match kind {
@@ -103,7 +103,7 @@ fn transferred(kind: CommandKind, start: u64, offset: u64, count: u64) -> Answer
     }
 }
 
-fn read_row(row: Row, offset: u64, length: u64) -> Answer
+pub fn read_row(row: Row, offset: u64, length: u64) -> Answer
     requires { ⌜ row .start + row .capacity / sectorBytes ≤ 2 ^ 40 ⌝ }
     ensures { λ r. ⌜ r ≡ readRow row offset length ⌝ }
 {
@@ -118,8 +118,8 @@ fn read_row(row: Row, offset: u64, length: u64) -> Answer
     transferred(CommandKind::Read, row.start, offset, count)
 }
 
-fn write_row(m: Mount, kind: FileKind, row: Row, offset: u64, length: u64) -> Answer
-    requires { ⌜ (sectorBytes ≤ m .volume .block) × (row .start + row .capacity / sectorBytes ≤ 2 ^ 40) ⌝ }
+pub fn write_row(m: Mount, kind: FileKind, row: Row, offset: u64, length: u64) -> Answer
+    requires { ⌜ (goodBlock (m .volume .block) ≡ true) × (row .start + row .capacity / sectorBytes ≤ 2 ^ 40) ⌝ }
     ensures { λ r. ⌜ r ≡ writeRow m kind row offset length ⌝ }
 {
     if m.readonly {
@@ -141,7 +141,7 @@ fn write_row(m: Mount, kind: FileKind, row: Row, offset: u64, length: u64) -> An
     transferred(CommandKind::Write, row.start, offset, length)
 }
 
-fn truncate_row(m: Mount, kind: FileKind, row: Row, target: u64) -> Answer
+pub fn truncate_row(m: Mount, kind: FileKind, row: Row, target: u64) -> Answer
     requires { ⌜ row .start + row .capacity / sectorBytes ≤ 2 ^ 40 ⌝ }
     ensures { λ r. ⌜ r ≡ truncateRow m kind row target ⌝ }
 {
@@ -162,7 +162,7 @@ fn truncate_row(m: Mount, kind: FileKind, row: Row, target: u64) -> Answer
     }
 }
 
-fn flush_row(m: Mount, row: Row) -> Answer
+pub fn flush_row(m: Mount, row: Row) -> Answer
     requires { ⌜ row .start + row .capacity / sectorBytes ≤ 2 ^ 40 ⌝ }
     ensures { λ r. ⌜ r ≡ flushRow m row ⌝ }
 {
@@ -178,7 +178,7 @@ fn flush_row(m: Mount, row: Row) -> Answer
 
 // What a call answers on its row.
 pub fn answer_of(m: Mount, kind: FileKind, row: Row, x: Call) -> Answer
-    requires { ⌜ (sectorBytes ≤ m .volume .block) × (row .start + row .capacity / sectorBytes ≤ 2 ^ 40) ⌝ }
+    requires { ⌜ (goodBlock (m .volume .block) ≡ true) × (row .start + row .capacity / sectorBytes ≤ 2 ^ 40) ⌝ }
     ensures { λ r. ⌜ r ≡ answerOf m kind row x ⌝ }
 {
     match x {

@@ -22,9 +22,9 @@ use Rattle.types.specs.declared.CommandKind.{CommandKind}
 use Rattle.types.specs.declared.CommandKind.the-variants as command
 use Rattle.types.specs.declared.Outstanding.{Outstanding}
 use Rattle.types.specs.declared.Outstanding.the-variants.{Idle, Busy}
-use Rattle.types.specs.Codes.{kindCode, policyCode, commandCode}
+use Rattle.types.specs.Codes.{kindCode, kindFrom, policyCode, commandCode}
 use Rattle.wire.specs.Le.{le}
-use Rattle.capi.specs.Words.{mountLength, mark, isHeld, heldIn, mountWords, written, possible, bytesFrom, shortOf, isMarked, kindFrom, policyFrom, commandFrom, mountFrom}
+use Rattle.capi.specs.Words.{mountLength, mark, isHeld, heldIn, mountWords, written, withState, possible, bytesFrom, shortOf, isMarked, policyFrom, commandFrom, mountFrom}
 
 -- words put in front are these words, and then what was there
 pub written-front : (w values : List ℕ) → length values ≤ length w → written w values ≡ values ++ drop (length values) w
@@ -164,7 +164,11 @@ mount-back m rest v =
       outstanding-back (m .outstanding) (v .number),
     )
 
--- the value that words hold, put into them again, changes nothing: so a refused call leaves them as they were
-pub put-again : (m : Mount) (rest : List ℕ) → written (mountWords m ++ rest) (mountWords m) ≡ mountWords m ++ rest
-unfolding mountWords
-put-again m rest = written-front (mountWords m ++ rest) (mountWords m) (omega arith)
+-- words that hold a mount value hold another that fixes the same, once its state is put into them
+pub state-put : (m m′ : Mount) (rest : List ℕ) → m′ .volume ≡ m .volume → withState (mountWords m ++ rest) m′ ≡ mountWords m′ ++ rest
+unfolding withState mountWords
+state-put m m′ rest e = rw e refl
+
+-- so a refused call, which changes no mount value, leaves them as they were
+pub put-again : (m : Mount) (rest : List ℕ) → withState (mountWords m ++ rest) m ≡ mountWords m ++ rest
+put-again m rest = state-put m m rest refl

@@ -1,32 +1,28 @@
 -- What each function of the C interface returns, and leaves in the words that it was lent.
 use Prim.Native.Nat.{ℕ}
 use mathlib.Core.List.{List}
-use mathlib.Core.Bool.{Bool, cond, not, _&&_}
+use mathlib.Core.Bool.{Bool, cond, _&&_}
 use lib.ListN.{length}
-use lib.Dec.{leb, eqb}
+use lib.Dec.{leb}
 use Rattle.types.specs.declared.Mount.{Mount}
-use Rattle.types.specs.declared.Volume.{Volume}
-use Rattle.types.specs.declared.FileKind.{FileKind}
-use Rattle.types.specs.declared.FileKind.the-variants.{Conventional, Sequential}
-use Rattle.types.specs.declared.Refusal.{Refusal}
-use Rattle.types.specs.declared.Refusal.the-variants.{NoFile, Impossible}
+use Rattle.types.specs.declared.Refusal.the-variants.{Impossible}
 use Rattle.types.specs.declared.Call.{Call}
 use Rattle.types.specs.declared.Outcome.{Outcome}
 use Rattle.types.specs.declared.MountAnswer.{MountAnswer}
 use Rattle.types.specs.declared.FindAnswer.{FindAnswer}
 use Rattle.types.specs.declared.ShowAnswer.{ShowAnswer}
 use Rattle.types.specs.declared.ShowAnswer.the-variants as show
+use Rattle.types.specs.Codes.{kindFrom}
 use Rattle.types.specs.Numbers.{refusalNumber, answerNumber, answerValues, mountNumber, mountValues, findNumber, findValues, showNumber, showValues}
 use Rattle.mount.specs.Mount.{mountOutcome}
 use Rattle.calls.specs.Names.{findOf}
 use Rattle.calls.specs.Show.{showOf}
-use Rattle.calls.specs.Checks.{countsFit}
-use Rattle.calls.specs.Calls.{outcomeOf, refusedWith}
+use Rattle.calls.specs.Calls.{isKind, noKind, outcomeBy}
 use Rattle.completion.specs.declared.Store.{Store}
 use Rattle.completion.specs.declared.Store.the-variants as store
 use Rattle.completion.specs.Completions.{Completion, digestOf}
 use Rattle.capi.specs.Answers.{answerLength, answerWords}
-use Rattle.capi.specs.Words.{mountLength, mountWords, written, possible, mountFrom}
+use Rattle.capi.specs.Words.{mountLength, mountWords, written, withState, possible, mountFrom}
 
 -- ---- what a function that is lent a mount's words and an answer's gives: the number that it returns, and both after it
 
@@ -42,7 +38,7 @@ unwritten w a = record { number = refusalNumber Impossible; mount = w; answer = 
 -- an outcome, told in words
 abbrev pub told : List ℕ → List ℕ → Outcome → Given
 told w a o =
-    record { number = answerNumber (o .answer); mount = written w (mountWords (o .mount)); answer = written a (answerWords (answerValues (o .answer))) }
+    record { number = answerNumber (o .answer); mount = withState w (o .mount); answer = written a (answerWords (answerValues (o .answer))) }
 
 -- the words hold a mount value, and the answer has room
 unfoldable pub usable : List ℕ → ℕ → Bool
@@ -50,20 +46,10 @@ usable w room = possible w && leb answerLength room
 
 -- ---- calls
 
--- "a kind above 1 answers 1", after 10 (counts)
-abbrev pub noKind : Volume → ℕ → ℕ → Refusal
-noKind v cnv seq = cond (countsFit v cnv seq) NoFile Impossible
-
-unfoldable pub callOutcome : Mount → List ℕ → List ℕ → ℕ → ℕ → Call → Outcome
-callOutcome m cnv seq kind i x =
-    cond (eqb kind 0) (outcomeOf m cnv seq Conventional i x)
-    (cond (eqb kind 1) (outcomeOf m cnv seq Sequential i x)
-    (refusedWith m (noKind (m .volume) (length cnv) (length seq))))
-
 -- a call, with the mount's words and the answer's
 unfoldable pub callWords : List ℕ → List ℕ → List ℕ → ℕ → ℕ → Call → List ℕ → Given
 callWords w cnv seq kind i x a =
-    cond (usable w (length a)) (told w a (callOutcome (mountFrom w) cnv seq kind i x)) (unwritten w a)
+    cond (usable w (length a)) (told w a (outcomeBy (mountFrom w) cnv seq kind i x)) (unwritten w a)
 
 -- ---- completions
 
@@ -93,11 +79,10 @@ findWords w cnv seq name a = cond (usable w (length a)) (toldFound a (findOf (mo
 abbrev pub toldShown : List ℕ → ShowAnswer → Reply
 toldShown a x = record { number = showNumber x; answer = written a (answerWords (showValues x)) }
 
+-- "a kind above 1 answers 1"
 unfoldable pub showAnswer : Mount → List ℕ → List ℕ → ℕ → ℕ → ShowAnswer
 showAnswer m cnv seq kind i =
-    cond (eqb kind 0) (showOf m cnv seq Conventional i)
-    (cond (eqb kind 1) (showOf m cnv seq Sequential i)
-    (show.Refused (noKind (m .volume) (length cnv) (length seq))))
+    cond (isKind kind) (showOf m cnv seq (kindFrom kind) i) (show.Refused (noKind (m .volume) (length cnv) (length seq)))
 
 unfoldable pub showWords : List ℕ → List ℕ → List ℕ → ℕ → ℕ → List ℕ → Reply
 showWords w cnv seq kind i a = cond (usable w (length a)) (toldShown a (showAnswer (mountFrom w) cnv seq kind i)) (silent a)

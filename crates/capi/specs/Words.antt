@@ -8,15 +8,14 @@ use lib.Dec.{leb, ltb, eqb}
 use Rattle.types.specs.declared.Mount.{Mount}
 use Rattle.types.specs.declared.Volume.{Volume}
 use Rattle.types.specs.declared.Held.{Held}
-use Rattle.types.specs.declared.FileKind.{FileKind}
-use Rattle.types.specs.declared.FileKind.the-variants.{Conventional, Sequential}
+use Rattle.types.specs.declared.FileKind.the-variants.{Conventional}
 use Rattle.types.specs.declared.ErrorPolicy.{ErrorPolicy}
 use Rattle.types.specs.declared.ErrorPolicy.the-variants.{RemountRo, ZoneRo, ZoneOffline, Repair}
 use Rattle.types.specs.declared.CommandKind.{CommandKind}
 use Rattle.types.specs.declared.CommandKind.the-variants as command
 use Rattle.types.specs.declared.Outstanding.{Outstanding}
 use Rattle.types.specs.declared.Outstanding.the-variants.{Idle, Busy}
-use Rattle.types.specs.Codes.{kindCode, policyCode, commandCode}
+use Rattle.types.specs.Codes.{kindCode, kindFrom, policyCode, commandCode}
 use Rattle.wire.specs.Le.{le}
 
 -- ---- the words of a mount value
@@ -49,6 +48,10 @@ heldIn (Busy h) = h
 abbrev pub heldWords : Held → List ℕ
 heldWords h = kindCode (h .kind) ∷ h .number ∷ commandCode (h .command .kind) ∷ h .command .address ∷ h .command .length ∷ []
 
+-- where the words of its state stand
+abbrev pub stateAt : ℕ
+stateAt = 9
+
 -- words 9 to 15: the read-only mark, whether a command is outstanding, and which, on which file
 abbrev pub stateWords : Mount → List ℕ
 stateWords m = mark (m .readonly) ∷ mark (isHeld (m .outstanding)) ∷ heldWords (heldIn (m .outstanding))
@@ -60,6 +63,11 @@ mountWords m = volumeWords (m .volume) ++ stateWords m
 
 unfoldable pub written : List ℕ → List ℕ → List ℕ
 written words values = sets words 0 values
+
+-- the words of a mount value with the state of another: those of what the mount fixes stand as they were. The law `state-put` says that words
+-- which held a mount value then hold the other, which fixes the same
+unfoldable pub withState : List ℕ → Mount → List ℕ
+withState words m = sets words stateAt (stateWords m)
 
 -- ---- which words hold a mount value
 
@@ -93,9 +101,6 @@ shortOf n = n % 2 ^ 32
 
 abbrev pub isMarked : ℕ → Bool
 isMarked n = not (eqb n 0)
-
-abbrev pub kindFrom : ℕ → FileKind
-kindFrom n = cond (eqb n 0) Conventional Sequential
 
 abbrev pub policyFrom : ℕ → ErrorPolicy
 policyFrom n = cond (eqb n 0) RemountRo (cond (eqb n 1) ZoneRo (cond (eqb n 2) ZoneOffline Repair))

@@ -10,22 +10,17 @@ ghost use lib.Dec.{eqb};
 ghost use lib.ListN.{length};
 ghost use Rattle.types.specs.declared.Call.{Call};
 ghost use Rattle.types.specs.declared.FileKind.the-variants as files;
-ghost use Rattle.calls.specs.Calls.{outcomeOf};
-ghost use Rattle.completion.specs.Completions.{Completion, completionOf, digestOf, stored};
-ghost use Rattle.capi.specs.Words.{mountLength, mountFrom};
+ghost use Rattle.completion.specs.Completions.{Completion, completionOf, completionBy, stored};
+ghost use Rattle.capi.specs.Words.{mountLength};
 ghost use Rattle.capi.specs.Answers.{answerLength};
-ghost use Rattle.capi.specs.Interface.{Given, told, usable, noKind, callOutcome, callWords, completionWords, completionStore, toldFound, findWords, toldShown, showAnswer, showWords, roomy, toldMounted, mountGiven, mountCnv, mountSeq};
+ghost use Rattle.capi.specs.Interface.{Given, told, usable, callWords, completionWords, completionStore, toldFound, findWords, toldShown, showAnswer, showWords, roomy, toldMounted, mountGiven, mountCnv, mountSeq};
 ghost use Rattle.crc32.specs.Crc.{crc32};
-use types::Answer;
 use types::Call;
-use types::FileKind;
 use types::FindAnswer;
 use types::Mount;
 use types::MountOutcome;
 use types::Outcome;
-use types::Refusal;
 use types::ShowAnswer;
-use types::Volume;
 
 // "mount value or tables impossible"
 const IMPOSSIBLE: u64 = 10;
@@ -47,48 +42,9 @@ fn tell(w: &mut [u64], a: &mut [u64], o: Outcome) -> u64
 {
     let m = o.mount;
     let x = o.answer;
-    words::put_mount(w, m);
+    words::put_state(w, m);
     answers::put_values(a, answers::answer_values(x));
     types::answer_number(x)
-}
-
-// The refusal of a kind above 1.
-fn no_kind(v: Volume, cnv: usize, seq: usize) -> Refusal
-    ensures { λ r. ⌜ r ≡ noKind v cnv seq ⌝ }
-{
-    if calls::checks::counts_fit(v, cnv, seq) {
-        Refusal::NoFile
-    } else {
-        Refusal::Impossible
-    }
-}
-
-fn call_on(m: Mount, cnv: &[u64], seq: &[u64], kind: FileKind, number: u32, x: Call) -> Outcome
-    ensures { λ r. ⌜ r ≡ outcomeOf m (now (cnv .entry)) (now (seq .entry)) kind number x ⌝ }
-{
-    match x {
-        Call::Read(offset, length) => calls::read(m, cnv, seq, kind, number, offset, length),
-        Call::Write(offset, length) => calls::write(m, cnv, seq, kind, number, offset, length),
-        Call::Truncate(target) => calls::truncate(m, cnv, seq, kind, number, target),
-        Call::Flush => calls::flush(m, cnv, seq, kind, number),
-    }
-}
-
-fn call_outcome(m: Mount, cnv: &[u64], seq: &[u64], kind: u32, number: u32, x: Call) -> Outcome
-    ensures { λ r. ⌜ r ≡ callOutcome m (now (cnv .entry)) (now (seq .entry)) kind number x ⌝ }
-{
-    if kind == 0 {
-        return call_on(m, cnv, seq, FileKind::Conventional, number, x);
-    }
-    if kind == 1 {
-        return call_on(m, cnv, seq, FileKind::Sequential, number, x);
-    }
-    let v = m.volume;
-    let refusal = no_kind(v, cnv.len(), seq.len());
-    Outcome {
-        answer: Answer::Refused(refusal),
-        mount: m,
-    }
 }
 
 // A call, with the mount's words and the answer's.
@@ -109,7 +65,7 @@ fn call(
         return IMPOSSIBLE;
     }
     let m = words::mount_from(&w[..]);
-    tell(w, a, call_outcome(m, cnv, seq, kind, number, x))
+    tell(w, a, calls::call_by(m, cnv, seq, kind as u64, number, x))
 }
 
 #[no_mangle]
@@ -181,6 +137,33 @@ pub extern "C" fn zonefs_flush(
     call(w, cnv, seq, kind, number, Call::Flush, a)
 }
 
+// The end of the outstanding command, with the mount's words and the answer's.
+fn end_command(
+    w: &mut [u64],
+    cnv: &mut [u64],
+    seq: &mut [u64],
+    done: bool,
+    bytes: &[u8],
+    given: bool,
+    a: &mut [u64],
+) -> u64
+    ensures { λ r. ⌜ r ≡ completionWords (now (w .entry)) (now (cnv .entry)) (now (seq .entry)) (completionBy done given (now (bytes .entry))) (now (a .entry)) .number ⌝ }
+    ensures { λ _. ⌜ now (w .exit) ≡ completionWords (now (w .entry)) (now (cnv .entry)) (now (seq .entry)) (completionBy done given (now (bytes .entry))) (now (a .entry)) .mount ⌝ }
+    ensures { λ _. ⌜ now (cnv .exit) ≡ stored files.Conventional (completionStore (now (w .entry)) (now (cnv .entry)) (now (seq .entry)) (completionBy done given (now (bytes .entry))) (length (now (a .entry)))) (now (cnv .entry)) ⌝ }
+    ensures { λ _. ⌜ now (seq .exit) ≡ stored files.Sequential (completionStore (now (w .entry)) (now (cnv .entry)) (now (seq .entry)) (completionBy done given (now (bytes .entry))) (length (now (a .entry)))) (now (seq .entry)) ⌝ }
+    ensures { λ _. ⌜ now (a .exit) ≡ completionWords (now (w .entry)) (now (cnv .entry)) (now (seq .entry)) (completionBy done given (now (bytes .entry))) (now (a .entry)) .answer ⌝ }
+{
+    if !is_usable(&w[..], a.len()) {
+        return IMPOSSIBLE;
+    }
+    let m = words::mount_from(&w[..]);
+    tell(
+        w,
+        a,
+        completion::end_command(m, cnv, seq, done, bytes, given),
+    )
+}
+
 // The outstanding command was done well.
 #[no_mangle]
 pub extern "C" fn zonefs_complete(
@@ -195,11 +178,7 @@ pub extern "C" fn zonefs_complete(
     ensures { λ _. ⌜ now (seq .exit) ≡ stored files.Sequential (completionStore (now (w .entry)) (now (cnv .entry)) (now (seq .entry)) Completion.good (length (now (a .entry)))) (now (seq .entry)) ⌝ }
     ensures { λ _. ⌜ now (a .exit) ≡ completionWords (now (w .entry)) (now (cnv .entry)) (now (seq .entry)) Completion.good (now (a .entry)) .answer ⌝ }
 {
-    if !is_usable(&w[..], a.len()) {
-        return IMPOSSIBLE;
-    }
-    let m = words::mount_from(&w[..]);
-    tell(w, a, completion::complete(m, cnv, seq))
+    end_command(w, cnv, seq, true, b"", false, a)
 }
 
 // The outstanding command failed. The bytes are its zone's record, and `given` (any number but 0) says that the record states a capacity.
@@ -218,11 +197,7 @@ pub extern "C" fn zonefs_fail(
     ensures { λ _. ⌜ now (seq .exit) ≡ stored files.Sequential (completionStore (now (w .entry)) (now (cnv .entry)) (now (seq .entry)) (completionOf (not (eqb given 0)) (now (bytes .entry))) (length (now (a .entry)))) (now (seq .entry)) ⌝ }
     ensures { λ _. ⌜ now (a .exit) ≡ completionWords (now (w .entry)) (now (cnv .entry)) (now (seq .entry)) (completionOf (not (eqb given 0)) (now (bytes .entry))) (now (a .entry)) .answer ⌝ }
 {
-    if !is_usable(&w[..], a.len()) {
-        return IMPOSSIBLE;
-    }
-    let m = words::mount_from(&w[..]);
-    tell(w, a, completion::fail(m, cnv, seq, bytes, given != 0))
+    end_command(w, cnv, seq, false, bytes, given != 0, a)
 }
 
 // The words of a mount value and those of an answer are long enough.
@@ -305,14 +280,12 @@ pub extern "C" fn zonefs_find(
 fn show_answer(m: Mount, cnv: &[u64], seq: &[u64], kind: u32, number: u32) -> ShowAnswer
     ensures { λ r. ⌜ r ≡ showAnswer m (now (cnv .entry)) (now (seq .entry)) kind number ⌝ }
 {
-    if kind == 0 {
-        return calls::show(m, cnv, seq, FileKind::Conventional, number);
+    if kind < 2 {
+        calls::show(m, cnv, seq, types::kind_from(kind as u64), number)
+    } else {
+        let v = m.volume;
+        ShowAnswer::Refused(calls::no_kind(v, cnv.len(), seq.len()))
     }
-    if kind == 1 {
-        return calls::show(m, cnv, seq, FileKind::Sequential, number);
-    }
-    let v = m.volume;
-    ShowAnswer::Refused(no_kind(v, cnv.len(), seq.len()))
 }
 
 fn tell_shown(a: &mut [u64], x: ShowAnswer) -> u64

@@ -6,7 +6,7 @@ ghost use lib.ListN.{length};
 ghost use lib.Seq.{sets};
 ghost use mathlib.Core.List.{_++_};
 ghost use Rattle.wire.specs.Le.{le};
-ghost use Rattle.capi.specs.Words.{mountLength, volumeWords, isHeld, heldIn, mark, heldWords, stateWords, mountWords, written, short, goodVolume, goodState, possible, bytesFrom, shortOf, kindFrom, policyFrom, commandFrom, volumeFrom, heldFrom, outstandingFrom, mountFrom};
+ghost use Rattle.capi.specs.Words.{mountLength, volumeWords, isHeld, heldIn, mark, heldWords, mountWords, written, withState, short, goodVolume, goodState, possible, bytesFrom, shortOf, policyFrom, commandFrom, volumeFrom, heldFrom, outstandingFrom, mountFrom};
 use types::Command;
 use types::CommandKind;
 use types::ErrorPolicy;
@@ -107,16 +107,6 @@ fn uuid_from(low: u64, high: u64) -> [u8; 16]
     ]
 }
 
-fn kind_from(code: u64) -> FileKind
-    ensures { λ r. ⌜ r ≡ kindFrom code ⌝ }
-{
-    if code == 0 {
-        FileKind::Conventional
-    } else {
-        FileKind::Sequential
-    }
-}
-
 fn policy_from(code: u64) -> ErrorPolicy
     ensures { λ r. ⌜ r ≡ policyFrom code ⌝ }
 {
@@ -167,7 +157,7 @@ fn held_from(w: &[u64]) -> Held
     requires { ⌜ mountLength ≤ length (now w) ⌝ }
     ensures { λ r. ⌜ r ≡ heldFrom (now (w .entry)) ⌝ }
 {
-    let kind = kind_from(w[11]);
+    let kind = types::kind_from(w[11]);
     let number = short_of(w[12]);
     let code = command_from(w[13]);
     let command = Command {
@@ -310,9 +300,10 @@ fn put_held(w: &mut [u64], held: Held)
     w[15] = command.length;
 }
 
-fn put_state(w: &mut [u64], m: Mount)
+// Puts the state of a mount value into the words.
+pub fn put_state(w: &mut [u64], m: Mount)
     requires { ⌜ mountLength ≤ length (now w) ⌝ }
-    ensures { λ _. ⌜ now (w .exit) ≡ sets (now (w .entry)) 9 (stateWords m) ⌝ }
+    ensures { λ _. ⌜ now (w .exit) ≡ withState (now (w .entry)) m ⌝ }
 {
     let o = m.outstanding;
     let readonly = mark_of(m.readonly);

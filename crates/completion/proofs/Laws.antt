@@ -34,7 +34,7 @@ use Rattle.calls.specs.declared.Checked.the-variants as checked
 use Rattle.calls.specs.Calls.{writeRow, answerOf}
 use Rattle.calls.specs.Checks.{fileOf}
 use Rattle.calls.specs.Told.{Reached}
-use Rattle.calls.proofs.Laws.{file-reached, reached-file, reached-lent, reached-sound, counts-sector, passed}
+use Rattle.calls.proofs.Laws.{file-reached, reached-file, reached-lent, reached-sound, counts-good, passed}
 use Rattle.zones.specs.declared.Zone.{Zone}
 use Rattle.zones.specs.Zone.{conventional, sequential, conditionOf, isHealthy, healthy, goodRecord}
 use Rattle.zones.proofs.Laws.{record-sound}
@@ -201,7 +201,7 @@ module _ (m : Mount) (cnv seq : List ℕ) where
 
   pub failure-safe : (p : Pending) → PendingTells m cnv seq p → FailureSafe m p
   failure-safe (On h r) w =
-      (counts-sector (m .volume) (length cnv) (length seq) (w .reached .counts), reached-sound (m .volume) cnv seq (h .kind) (h .number) r (w .reached) .ends)
+      (counts-good (m .volume) (length cnv) (length seq) (w .reached .counts), reached-sound (m .volume) cnv seq (h .kind) (h .number) r (w .reached) .ends)
   failure-safe (Refused x) w = tt
 
   -- a row that is stored is the held command's, which is lent

@@ -50,6 +50,10 @@ pub data Completion : Type 0 where
 unfoldable pub completionOf : Bool → List ℕ → Completion
 completionOf given bytes = cond (eqb (length bytes) zoneBytes) (failed (zoneAt given bytes 0)) malformed
 
+-- what the disk tells: that the command was done well, or its failure
+abbrev pub completionBy : Bool → Bool → List ℕ → Completion
+completionBy done given bytes = cond done good (completionOf given bytes)
+
 -- the table of a kind after a store
 abbrev pub stored : FileKind → Store → List ℕ → List ℕ
 stored k store.Nothing t = t

@@ -8,7 +8,7 @@ use Rattle.types.specs.declared.Mount.{Mount}
 use Rattle.types.specs.declared.CommandKind.the-variants as kind
 use Rattle.types.specs.declared.FileKind.{FileKind}
 use Rattle.types.specs.declared.FileKind.the-variants.{Sequential}
-use Rattle.types.specs.Blocks.{sectorBytes}
+use Rattle.types.specs.Blocks.{sectorBytes, goodBlock}
 use Rattle.table.specs.Rows.{rowsLent}
 use Rattle.calls.specs.Checks.{ofKind}
 use Rattle.zones.specs.declared.Zone.{Zone}
@@ -41,5 +41,5 @@ SuccessSafe (Refused x) = Unit
 
 -- of what a failure is about: no sum on the row wraps
 abbrev pub FailureSafe : Mount → Pending → Type 0
-FailureSafe m (On h r) = (sectorBytes ≤ m .volume .block) × (r .start + r .capacity / sectorBytes ≤ 2 ^ 40)
+FailureSafe m (On h r) = (goodBlock (m .volume .block) ≡ true) × (r .start + r .capacity / sectorBytes ≤ 2 ^ 40)
 FailureSafe m (Refused x) = Unit

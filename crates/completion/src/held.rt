@@ -1,13 +1,14 @@
 // The held command of a completion, and whether a call would issue it.
 ghost use mathlib.Core.Path.{_≡_};
+ghost use mathlib.Core.Bool.{true};
 ghost use Prim.Native.Nat.{_+_, _-_, _/_, _≤_, _^_};
-ghost use Rattle.types.specs.Blocks.{sectorBytes, bytesOf};
+ghost use Rattle.types.specs.Blocks.{sectorBytes, goodBlock, bytesOf};
 ghost use Rattle.calls.specs.Told.{Ends};
-ghost use Rattle.completion.specs.Held.{sameCommand, issues, callFor, issuable, heldOn, pendingOf, PendingTells};
+ghost use Rattle.completion.specs.Held.{sameCommand, issues, issuable, heldOn, pendingOf, PendingTells};
 use calls::Checked;
 use calls::Lookup;
+use calls::rows;
 use types::Answer;
-use types::Call;
 use types::Command;
 use types::CommandKind;
 use types::FileKind;
@@ -43,19 +44,6 @@ fn issues_it(a: Answer, c: Command) -> bool
     }
 }
 
-// The one call that can issue a command of this kind, at this offset and with this length.
-fn call_for(row: Row, kind: CommandKind, offset: u64, length: u64) -> Call
-    ensures { λ r. ⌜ r ≡ callFor row kind offset length ⌝ }
-{
-    match kind {
-        CommandKind::Read => Call::Read(offset, length),
-        CommandKind::Write => Call::Write(offset, length),
-        CommandKind::Reset => Call::Truncate(0),
-        CommandKind::Finish => Call::Truncate(row.capacity),
-        CommandKind::Flush => Call::Flush,
-    }
-}
-
 // How far an address lies past the start of its file, 0 where it doesn't.
 fn offset_from(start: u64, address: u64) -> u64
     requires { ⌜ start ≤ 2 ^ 40 ⌝ }
@@ -67,17 +55,22 @@ fn offset_from(start: u64, address: u64) -> u64
 
 // Whether some call on this row would issue the command: the one that would have is made again.
 fn is_issuable(m: Mount, kind: FileKind, row: Row, c: Command) -> bool
-    requires { ⌜ (sectorBytes ≤ m .volume .block) × (row .start + row .capacity / sectorBytes ≤ 2 ^ 40) ⌝ }
+    requires { ⌜ (goodBlock (m .volume .block) ≡ true) × (row .start + row .capacity / sectorBytes ≤ 2 ^ 40) ⌝ }
     ensures { λ r. ⌜ r ≡ issuable m kind row c ⌝ }
 {
     let command = c.kind;
     let offset = offset_from(row.start, c.address);
-    let again = call_for(row, command, offset, c.length);
-    issues_it(calls::rows::answer_of(m, kind, row, again), c)
+    match command {
+        CommandKind::Read => issues_it(rows::read_row(row, offset, c.length), c),
+        CommandKind::Write => issues_it(rows::write_row(m, kind, row, offset, c.length), c),
+        CommandKind::Reset => issues_it(rows::truncate_row(m, kind, row, 0), c),
+        CommandKind::Finish => issues_it(rows::truncate_row(m, kind, row, row.capacity), c),
+        CommandKind::Flush => issues_it(rows::flush_row(m, row), c),
+    }
 }
 
 fn held_on(m: Mount, h: Held, file: Checked) -> Pending
-    requires { ⌜ (sectorBytes ≤ m .volume .block) × Ends file ⌝ }
+    requires { ⌜ (goodBlock (m .volume .block) ≡ true) × Ends file ⌝ }
     ensures { λ r. ⌜ r ≡ heldOn m h file ⌝ }
 {
     let kind = h.kind;

@@ -7,10 +7,10 @@ ghost use mathlib.Core.Bool.{true};
 ghost use Prim.Native.Nat.{_+_, _/_, _<_, _≤_, _^_};
 ghost use Rattle.types.specs.declared.FileKind.the-variants as files;
 ghost use Rattle.types.specs.declared.CommandKind.the-variants as commands;
-ghost use Rattle.completion.specs.Completions.{stored, refusing, sizeAfter, countOf, succeeded, matchesSequential, withinConventional, recordFits, fixedSize, unharmed, nothingLost, ruledSize, readAtMost, ruledAccess, recoveredRow, markedBy, failing, recovering, recovered, digested, Completion, completionOf, digestPending, digestOf};
+ghost use Rattle.completion.specs.Completions.{stored, refusing, sizeAfter, countOf, succeeded, matchesSequential, withinConventional, recordFits, fixedSize, unharmed, nothingLost, ruledSize, readAtMost, ruledAccess, recoveredRow, markedBy, failing, recovering, recovered, digested, Completion, completionOf, completionBy, digestPending, digestOf};
 ghost use Rattle.completion.specs.Told.{StoreFits, Fitting, Sizing, SuccessSafe, FailureSafe};
 ghost use Rattle.completion.specs.declared.grid.SizeRule.the-variants as rules;
-ghost use Rattle.types.specs.Blocks.{sectorBytes};
+ghost use Rattle.types.specs.Blocks.{sectorBytes, goodBlock};
 ghost use Rattle.zones.specs.Zone.{healthy};
 ghost use Rattle.zones.specs.Told.{Sound};
 use grid::AccessRule;
@@ -137,7 +137,7 @@ fn within_conventional(row: Row, z: Zone) -> bool
 
 // Check 9.
 fn record_fits(block: u64, kind: FileKind, row: Row, z: Zone) -> bool
-    requires { ⌜ (sectorBytes ≤ block) × (row .start + row .capacity / sectorBytes ≤ 2 ^ 40) ⌝ }
+    requires { ⌜ (goodBlock block ≡ true) × (row .start + row .capacity / sectorBytes ≤ 2 ^ 40) ⌝ }
     ensures { λ r. ⌜ r ≡ recordFits block kind row z ⌝ }
 {
     if !zones::good_record(z, zones::block_sectors(block)) {
@@ -280,7 +280,7 @@ fn recover(m: Mount, h: Held, row: Row, z: Zone) -> Digest
 
 // Check 9, and then as the record says.
 fn digest_record(m: Mount, h: Held, row: Row, z: Zone) -> Digest
-    requires { ⌜ (sectorBytes ≤ m .volume .block) × (row .start + row .capacity / sectorBytes ≤ 2 ^ 40) ⌝ }
+    requires { ⌜ (goodBlock (m .volume .block) ≡ true) × (row .start + row .capacity / sectorBytes ≤ 2 ^ 40) ⌝ }
     ensures { λ r. ⌜ r ≡ digested m h row (Completion.failed z) ⌝ }
 {
     let volume = m.volume;
@@ -292,58 +292,70 @@ fn digest_record(m: Mount, h: Held, row: Row, z: Zone) -> Digest
     }
 }
 
-fn digest_success(m: Mount, p: Pending) -> Digest
-    requires { ⌜ SuccessSafe p ⌝ }
-    ensures { λ r. ⌜ r ≡ digestPending m p Completion.good ⌝ }
+// Bytes of another length are no record: 9 too.
+fn digest_bytes(m: Mount, h: Held, row: Row, bytes: &[u8], given: bool) -> Digest
+    requires { ⌜ (goodBlock (m .volume .block) ≡ true) × (row .start + row .capacity / sectorBytes ≤ 2 ^ 40) ⌝ }
+    ensures { λ r. ⌜ r ≡ digested m h row (completionOf given (now (bytes .entry))) ⌝ }
 {
-    match p {
-        Pending::On(h, row) => succeed(m, h, row),
-        Pending::Refused(x) => refuse(m, x),
+    if bytes.len() == zones::ZONE_BYTES {
+        digest_record(m, h, row, zones::zone_at(bytes, 0, given))
+    } else {
+        refuse(m, Refusal::BadRecord)
     }
 }
 
-// Bytes of another length are no record: 9 too.
-fn digest_failure(m: Mount, p: Pending, bytes: &[u8], given: bool) -> Digest
-    requires { ⌜ FailureSafe m p ⌝ }
-    ensures { λ r. ⌜ r ≡ digestPending m p (completionOf given (now (bytes .entry))) ⌝ }
+fn digest_pending(m: Mount, p: Pending, done: bool, bytes: &[u8], given: bool) -> Digest
+    requires { ⌜ SuccessSafe p × FailureSafe m p ⌝ }
+    ensures { λ r. ⌜ r ≡ digestPending m p (completionBy done given (now (bytes .entry))) ⌝ }
 {
     match p {
         Pending::On(h, row) => {
-            if bytes.len() == zones::ZONE_BYTES {
-                digest_record(m, h, row, zones::zone_at(bytes, 0, given))
+            if done {
+                succeed(m, h, row)
             } else {
-                refuse(m, Refusal::BadRecord)
+                digest_bytes(m, h, row, bytes, given)
             }
         }
         Pending::Refused(x) => refuse(m, x),
     }
 }
 
-// The outstanding command was done well. One row is read, and at most one is written.
-pub fn complete(m: Mount, cnv: &mut [u64], seq: &mut [u64]) -> Outcome
-    ensures { λ r. ⌜ r ≡ digestOf m (now (cnv .entry)) (now (seq .entry)) Completion.good .outcome ⌝ }
-    ensures { λ _. ⌜ now (cnv .exit) ≡ stored files.Conventional (digestOf m (now (cnv .entry)) (now (seq .entry)) Completion.good .store) (now (cnv .entry)) ⌝ }
-    ensures { λ _. ⌜ now (seq .exit) ≡ stored files.Sequential (digestOf m (now (cnv .entry)) (now (seq .entry)) Completion.good .store) (now (seq .entry)) ⌝ }
+// The outstanding command was done well, or it failed: then the bytes are its zone's record, and `given` says that the record states a
+// capacity. One row is read, and at most one is written.
+pub fn end_command(
+    m: Mount,
+    cnv: &mut [u64],
+    seq: &mut [u64],
+    done: bool,
+    bytes: &[u8],
+    given: bool,
+) -> Outcome
+    ensures { λ r. ⌜ r ≡ digestOf m (now (cnv .entry)) (now (seq .entry)) (completionBy done given (now (bytes .entry))) .outcome ⌝ }
+    ensures { λ _. ⌜ now (cnv .exit) ≡ stored files.Conventional (digestOf m (now (cnv .entry)) (now (seq .entry)) (completionBy done given (now (bytes .entry))) .store) (now (cnv .entry)) ⌝ }
+    ensures { λ _. ⌜ now (seq .exit) ≡ stored files.Sequential (digestOf m (now (cnv .entry)) (now (seq .entry)) (completionBy done given (now (bytes .entry))) .store) (now (seq .entry)) ⌝ }
 {
     let p = held::find_pending(m, &cnv[..], &seq[..]);
-    let digest = digest_success(m, p);
+    let digest = digest_pending(m, p, done, bytes, given);
     let store = digest.store;
     let outcome = digest.outcome;
     put_store(cnv, seq, store);
     outcome
 }
 
-// The outstanding command failed. The bytes are its zone's record, and `given` says that the record states a capacity.
-// One row is read, and at most one is written.
+// The outstanding command was done well.
+pub fn complete(m: Mount, cnv: &mut [u64], seq: &mut [u64]) -> Outcome
+    ensures { λ r. ⌜ r ≡ digestOf m (now (cnv .entry)) (now (seq .entry)) Completion.good .outcome ⌝ }
+    ensures { λ _. ⌜ now (cnv .exit) ≡ stored files.Conventional (digestOf m (now (cnv .entry)) (now (seq .entry)) Completion.good .store) (now (cnv .entry)) ⌝ }
+    ensures { λ _. ⌜ now (seq .exit) ≡ stored files.Sequential (digestOf m (now (cnv .entry)) (now (seq .entry)) Completion.good .store) (now (seq .entry)) ⌝ }
+{
+    end_command(m, cnv, seq, true, b"", false)
+}
+
+// The outstanding command failed, and its zone has this record.
 pub fn fail(m: Mount, cnv: &mut [u64], seq: &mut [u64], bytes: &[u8], given: bool) -> Outcome
     ensures { λ r. ⌜ r ≡ digestOf m (now (cnv .entry)) (now (seq .entry)) (completionOf given (now (bytes .entry))) .outcome ⌝ }
     ensures { λ _. ⌜ now (cnv .exit) ≡ stored files.Conventional (digestOf m (now (cnv .entry)) (now (seq .entry)) (completionOf given (now (bytes .entry))) .store) (now (cnv .entry)) ⌝ }
     ensures { λ _. ⌜ now (seq .exit) ≡ stored files.Sequential (digestOf m (now (cnv .entry)) (now (seq .entry)) (completionOf given (now (bytes .entry))) .store) (now (seq .entry)) ⌝ }
 {
-    let p = held::find_pending(m, &cnv[..], &seq[..]);
-    let digest = digest_failure(m, p, bytes, given);
-    let store = digest.store;
-    let outcome = digest.outcome;
-    put_store(cnv, seq, store);
-    outcome
+    end_command(m, cnv, seq, false, bytes, given)
 }

@@ -3,10 +3,9 @@ use Prim.Native.Nat.{ℕ, zero, suc, _+_, _*_}
 use mathlib.Core.List.{List, [], _++_}
 use mathlib.Core.Bool.{Bool, true, false, cond, _&&_}
 use lib.ListN.{length, take, drop, replicate}
-use lib.Dec.{leb, ltb, eqb}
+use lib.Dec.{leb, ltb}
 use Rattle.types.specs.declared.Mount.{Mount}
 use Rattle.types.specs.declared.FileKind.the-variants.{Conventional, Sequential}
-use Rattle.types.specs.declared.Refusal.the-variants.{NoFile}
 use Rattle.types.specs.declared.Call.{Call}
 use Rattle.types.specs.declared.MountAnswer.{MountAnswer}
 use Rattle.types.specs.declared.MountAnswer.the-variants.{Refused, Mounted}
@@ -15,7 +14,7 @@ use Rattle.types.specs.Mounts.{emptyMount}
 use Rattle.table.specs.Rows.{rowWidth}
 use Rattle.mount.specs.Mount.{Mounting, mountOutcome}
 use Rattle.calls.specs.Checks.{mostFiles}
-use Rattle.calls.specs.Calls.{outcomeOf, refusedWith}
+use Rattle.calls.specs.Calls.{outcomeBy}
 use Rattle.completion.specs.declared.Digest.{Digest}
 use Rattle.completion.specs.Completions.{Completion, good, completionOf, stored, digestOf}
 use Rattle.tape.specs.declared.records.Record.{Record}
@@ -51,13 +50,6 @@ brokenTurn at s = turn brokenLine false at s
 
 -- ---- a record after `MO`
 
--- "kind byte 0 cnv or 1 seq", "a kind above 1 answers 1"
-unfoldable pub called : State → ℕ → ℕ → Call → Outcome
-called s kind number x =
-    cond (eqb kind 0) (outcomeOf (s .mount) (s .cnv) (s .seq) Conventional number x)
-    (cond (eqb kind 1) (outcomeOf (s .mount) (s .cnv) (s .seq) Sequential number x)
-    (refusedWith (s .mount) NoFile))
-
 abbrev pub callTurn : ℕ → State → Call → Outcome → Turn
 callTurn next s x o = turn (callLine x (o .answer)) true next (record { mount = o .mount; cnv = s .cnv; seq = s .seq })
 
@@ -78,7 +70,7 @@ abbrev pub failureAt : List ℕ → ℕ → Completion
 failureAt b at = completionOf true (take 64 (drop (at + 2) b))
 
 abbrev pub turnOf : List ℕ → ℕ → State → Record → Turn
-turnOf b at s (OnFile kind number x) = callTurn (at + callBytes) s x (called s kind number x)
+turnOf b at s (OnFile kind number x) = callTurn (at + callBytes) s x (outcomeBy (s .mount) (s .cnv) (s .seq) kind number x)
 turnOf b at s Good = completionTurn goodMark (at + goodBytes) s (digest s good)
 turnOf b at s Failed = completionTurn failedMark (at + failedBytes) s (digest s (failureAt b at))
 turnOf b at s Broken = brokenTurn at s

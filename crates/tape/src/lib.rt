@@ -9,21 +9,18 @@ ghost use mathlib.Core.List.{List, [], _∷_};
 ghost use Prim.Native.Nat.{ℕ, _+_, _^_, _≤_, _<_};
 ghost use lib.ListN.{length, take, set};
 ghost use lib.Seq.{sets};
-ghost use Rattle.calls.specs.Calls.{outcomeOf};
+ghost use Rattle.calls.specs.Calls.{outcomeBy};
 ghost use Rattle.tape.specs.Records.{opens};
 ghost use Rattle.tape.specs.Lines.{completionLine};
-ghost use Rattle.tape.specs.Tape.{turn, called, callTurn, brokenTurn, turnOf, turnAt, goesOn, mounting, openTurn, textFrom, textWith, tapeText, playedInto};
+ghost use Rattle.tape.specs.Tape.{turn, callTurn, brokenTurn, turnOf, turnAt, goesOn, mounting, openTurn, textFrom, textWith, tapeText, playedInto};
 ghost use Rattle.tape.specs.Told.{Stands, Opened, lineRoom, stateOf, restOf, Takes, Mounts};
 ghost use Rattle.tape.specs.Put.{Put, Fills};
 use records::Record;
-use types::Answer;
 use types::Call;
-use types::FileKind;
 use types::Mount;
 use types::MountAnswer;
 use types::MountOutcome;
 use types::Outcome;
-use types::Refusal;
 
 // What a record left: the place after its line, whether the tape goes on, the place of the next record, and the mount.
 pub struct Turned {
@@ -39,35 +36,6 @@ pub enum Played {
     TooShort,
 }
 
-// A call on a file.
-fn call(m: Mount, cnv: &[u64], seq: &[u64], kind: FileKind, number: u32, x: Call) -> Outcome
-    ensures { λ r. ⌜ r ≡ outcomeOf m (now (cnv .entry)) (now (seq .entry)) kind number x ⌝ }
-{
-    match x {
-        Call::Read(offset, length) => calls::read(m, cnv, seq, kind, number, offset, length),
-        Call::Write(offset, length) => calls::write(m, cnv, seq, kind, number, offset, length),
-        Call::Truncate(size) => calls::truncate(m, cnv, seq, kind, number, size),
-        Call::Flush => calls::flush(m, cnv, seq, kind, number),
-    }
-}
-
-// A call on the file of a kind byte.
-fn call_by(m: Mount, cnv: &[u64], seq: &[u64], kind: u8, number: u32, x: Call) -> Outcome
-    ensures { λ r. ⌜ r ≡ called (stateOf m (now (cnv .entry)) (now (seq .entry))) kind number x ⌝ }
-{
-    if kind == 0 {
-        return call(m, cnv, seq, FileKind::Conventional, number, x);
-    }
-    if kind == 1 {
-        call(m, cnv, seq, FileKind::Sequential, number, x)
-    } else {
-        Outcome {
-            answer: Answer::Refused(Refusal::NoFile),
-            mount: m,
-        }
-    }
-}
-
 // The turn of a call. The next record stands at `next`.
 fn call_turn(
     m: Mount,
@@ -81,9 +49,9 @@ fn call_turn(
     to: usize,
 ) -> Turned
     requires { ⌜ to + lineRoom ≤ length (now out) ⌝ }
-    ensures { λ r. ⌜ Takes (callTurn next (stateOf m (now (cnv .entry)) (now (seq .entry))) x (called (stateOf m (now (cnv .entry)) (now (seq .entry))) kind number x)) (now (out .entry)) (now (out .exit)) to r (now (cnv .entry)) (now (seq .entry)) ⌝ }
+    ensures { λ r. ⌜ Takes (callTurn next (stateOf m (now (cnv .entry)) (now (seq .entry))) x (outcomeBy m (now (cnv .entry)) (now (seq .entry)) kind number x)) (now (out .entry)) (now (out .exit)) to r (now (cnv .entry)) (now (seq .entry)) ⌝ }
 {
-    let o = call_by(m, cnv, seq, kind, number, x);
+    let o = calls::call_by(m, cnv, seq, kind as u64, number, x);
     let answer = o.answer;
     let mount = o.mount;
     let end = lines::put_call_line(out, to, x, answer);

@@ -1,5 +1,7 @@
 -- The number that stands for each kind, condition, access, policy and command, wherever one is written as a number.
 use Prim.Native.Nat.{ℕ}
+use mathlib.Core.Bool.{cond}
+use lib.Dec.{eqb}
 use Rattle.types.specs.declared.FileKind.{FileKind}
 use Rattle.types.specs.declared.FileKind.the-variants.{Conventional, Sequential}
 use Rattle.types.specs.declared.Condition.{Condition}
@@ -15,6 +17,10 @@ use Rattle.types.specs.declared.CommandKind.the-variants as command
 abbrev pub kindCode : FileKind → ℕ
 kindCode Conventional = 0
 kindCode Sequential = 1
+
+-- and back, of a number that is one of the two
+abbrev pub kindFrom : ℕ → FileKind
+kindFrom n = cond (eqb n 0) Conventional Sequential
 
 -- from good to bad, as in "its condition may not be better than a seq row's (healthy, read-only, offline)"
 abbrev pub conditionCode : Condition → ℕ

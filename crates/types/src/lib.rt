@@ -2,7 +2,7 @@
 ghost use mathlib.Core.Path.{_≡_};
 ghost use Prim.Native.Nat.{_<_};
 ghost use Rattle.types.specs.Blocks.{goodBlock, endsInReach};
-ghost use Rattle.types.specs.Codes.{kindCode, conditionCode, accessCode, policyCode, commandCode};
+ghost use Rattle.types.specs.Codes.{kindCode, kindFrom, conditionCode, accessCode, policyCode, commandCode};
 ghost use Rattle.types.specs.Numbers.{refusalNumber, answerNumber, mountNumber, findNumber, showNumber};
 ghost use Rattle.types.specs.Mounts.{emptyMount, holding, cleared, readOnly};
 
@@ -189,6 +189,17 @@ pub fn kind_code(k: FileKind) -> u64
     match k {
         FileKind::Conventional => 0,
         FileKind::Sequential => 1,
+    }
+}
+
+// The kind of a code.
+pub fn kind_from(code: u64) -> FileKind
+    ensures { λ r. ⌜ r ≡ kindFrom code ⌝ }
+{
+    if code == 0 {
+        FileKind::Conventional
+    } else {
+        FileKind::Sequential
     }
 }
 

@@ -18,8 +18,8 @@ returns c = let e = sym (c .before .is-usable .ensures .0) ∙ not-true _ (c .if
 mount-from-requires : tie.Need-mount-from-requires
 mount-from-requires c κs = c .before .before .is-usable .ensures .1 (not-false _ (c .before .if1 .left)) .0
 
-call-outcome-requires : tie.Need-call-outcome-requires
-call-outcome-requires c κs = search needs
+call-by-requires : tie.Need-call-by-requires
+call-by-requires c κs = search needs
 
 tell-requires : tie.Need-tell-requires
 tell-requires c κs = c .before .before .before .before .before .before .is-usable .ensures .1 (not-false _ (c .before .before .before .before .before .if1 .left))
@@ -34,7 +34,7 @@ returns-2 : tie.Need-returns-2
 unfolding callWords
 returns-2 c = let e = sym (c .before .before .before .before .before .before .before .before .before .before .before .is-usable .ensures .0) ∙ not-false _ (c .before .before .before .before .before .before .before .before .before .before .if1 .left) in
     let t = c .before .before .before .before .tell .ensures in
-    let o = c .before .before .before .before .before .call-outcome .ensures in
+    let o = c .before .before .before .before .before .call-by .ensures in
     let m = c .before .before .before .before .before .before .before .before .mount-from .ensures in
     (simp (e, t .0, o, m), (simp (e, t .1 .0, o, m), simp (e, t .1 .1, o, m)))
 
@@ -46,7 +46,7 @@ call-spec =
     same-length
     returns
     mount-from-requires
-    call-outcome-requires
+    call-by-requires
     tell-requires
     same-length-2
     same-length-3

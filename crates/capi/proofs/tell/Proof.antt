@@ -3,8 +3,8 @@ use borrow.Author.Needs.{needs}
 use Rattle.capi.proofs.tell.Statement.{statement}
 use Rattle.capi.proofs.tell.Tie as tie
 
-put-mount-requires : tie.Need-put-mount-requires
-put-mount-requires c κs = search needs
+put-state-requires : tie.Need-put-state-requires
+put-state-requires c κs = search needs
 
 answer-values-requires : tie.Need-answer-values-requires
 answer-values-requires c κs = search needs
@@ -23,13 +23,13 @@ same-length-2 c = search needs
 
 returns : tie.Need-returns
 unfolding answerWords
-returns c = (c .answer-number .ensures, (c .before .before .before .before .before .before .before .before .put-mount .ensures, simp (c .before .before .before .put-values .ensures, c .before .before .before .before .answer-values .ensures)))
+returns c = (c .answer-number .ensures, (c .before .before .before .before .before .before .before .before .put-state .ensures, simp (c .before .before .before .put-values .ensures, c .before .before .before .before .answer-values .ensures)))
 
 pub tell-spec : {M : Type 1} → statement M
 tell-spec =
     tie.close
     (tie.spec
-    put-mount-requires
+    put-state-requires
     answer-values-requires
     put-values-requires
     answer-number-requires

@@ -1,6 +1,7 @@
 use mathlib.Core.Path.{_∙_, sym}
 use borrow.Author.Tests.{not-true, not-false}
 use Rattle.zones.proofs.Laws.{record-sound}
+use Rattle.calls.proofs.Laws.{block-some}
 use Rattle.completion.specs.Completions.{recordFits}
 use borrow.Author.Needs.{needs}
 use Rattle.completion.proofs.record_fits.Statement.{statement}
@@ -10,7 +11,7 @@ block-sectors-requires : tie.Need-block-sectors-requires
 block-sectors-requires c κs = search needs
 
 good-record-requires : tie.Need-good-record-requires
-good-record-requires c κs = search needs
+good-record-requires c κs = simp (c .block-sectors .ensures) (block-some (c .before .args .block) (c .before .pre .0))
 
 returns : tie.Need-returns
 unfolding recordFits

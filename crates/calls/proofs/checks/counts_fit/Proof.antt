@@ -1,5 +1,7 @@
-use Rattle.calls.specs.Checks.{countsFit}
-use Rattle.calls.proofs.Laws.{counts-sector}
+use mathlib.Core.Bool.{_&&_}
+use Rattle.types.specs.Blocks.{goodBlock}
+use Rattle.types.proofs.Tests.{and-right}
+use Rattle.calls.specs.Checks.{filesFit, countsFit}
 use borrow.Author.Needs.{needs}
 use Rattle.calls.proofs.checks.counts_fit.Statement.{statement}
 use Rattle.calls.proofs.checks.counts_fit.Tie as tie
@@ -15,7 +17,9 @@ good-block-requires c κs = search needs
 
 returns : tie.Need-returns
 unfolding countsFit
-returns c = let a = c .before .before .before .args in (cc, λ t. counts-sector (a .v) (a .cnv) (a .seq) (cc))
+returns c = let a = c .before .before .before .args in
+    let fits = filesFit (a .v .conventional) (a .cnv) && filesFit (a .v .sequential) (a .seq) in
+    (cc, λ t. and-right fits (goodBlock (a .v .block)) (cc))
 
 pub counts-fit-spec : {M : Type 1} → statement M
 counts-fit-spec =

@@ -2,18 +2,18 @@ use borrow.Author.Needs.{needs}
 use Rattle.calls.proofs.checks.is_placed.Statement.{statement}
 use Rattle.calls.proofs.checks.is_placed.Tie as tie
 
-whole-blocks-requires : tie.Need-whole-blocks-requires
-whole-blocks-requires c κs = search needs
+sectors-on-block-requires : tie.Need-sectors-on-block-requires
+sectors-on-block-requires c κs = search needs
 
-whole-blocks-requires-2 : tie.Need-whole-blocks-requires-2
-whole-blocks-requires-2 c κs = search needs
+on-block-requires : tie.Need-on-block-requires
+on-block-requires c κs = search needs
 
-ends-by-requires : tie.Need-ends-by-requires
-ends-by-requires c κs = search needs
+ends-in-reach-requires : tie.Need-ends-in-reach-requires
+ends-in-reach-requires c κs = search needs
 
 returns : tie.Need-returns
 returns c = cc
 
 pub is-placed-spec : {M : Type 1} → statement M
 is-placed-spec =
-    tie.close (tie.spec whole-blocks-requires whole-blocks-requires-2 ends-by-requires returns)
+    tie.close (tie.spec sectors-on-block-requires on-block-requires ends-in-reach-requires returns)

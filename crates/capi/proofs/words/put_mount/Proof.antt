@@ -1,5 +1,4 @@
-use Rattle.capi.specs.Words.{mountWords}
-use Rattle.capi.specs.Words.{written}
+use Rattle.capi.specs.Words.{mountWords, written, withState}
 use borrow.Author.Needs.{needs}
 use Rattle.capi.proofs.words.put_mount.Statement.{statement}
 use Rattle.capi.proofs.words.put_mount.Tie as tie
@@ -14,7 +13,7 @@ same-length : tie.Need-same-length
 same-length c = search needs
 
 returns : tie.Need-returns
-unfolding written mountWords
+unfolding written mountWords withState
 returns c = cc
 
 pub put-mount-spec : {M : Type 1} → statement M

@@ -1,5 +1,6 @@
 use native.Mathlib.Omega.{arith}
 use lib.ListN.{length-set}
+use Rattle.capi.specs.Words.{withState}
 use borrow.Author.Needs.{needs}
 use Rattle.capi.proofs.words.put_state.Statement.{statement}
 use Rattle.capi.proofs.words.put_state.Tie as tie
@@ -29,6 +30,7 @@ same-length : tie.Need-same-length
 same-length c = simp (c .before .before .put-held .ensures, length-set)
 
 returns : tie.Need-returns
+unfolding withState
 returns c = cc
 
 pub put-state-spec : {M : Type 1} → statement M

@@ -2,8 +2,8 @@ use mathlib.Core.Path.{_∙_, sym}
 use borrow.Author.Tests.{not-true, not-false}
 use Rattle.calls.proofs.Laws.{file-counts, file-none, file-found}
 use borrow.Author.Needs.{needs}
-use Rattle.calls.proofs.read.Statement.{statement}
-use Rattle.calls.proofs.read.Tie as tie
+use Rattle.calls.proofs.call.Statement.{statement}
+use Rattle.calls.proofs.call.Tie as tie
 
 counts-fit-requires : tie.Need-counts-fit-requires
 counts-fit-requires c κs = search needs
@@ -36,8 +36,8 @@ call-on-requires c κs = c .before .before .before .before .before .counts-fit .
 returns-3 : tie.Need-returns-3
 returns-3 c = simp (file-found _ _ _ _ _ (sym (c .before .before .before .before .before .before .counts-fit .ensures .0) ∙ not-false _ (c .before .before .before .before .before .if1 .left)) (sym (c .before .before .before .before .lookup .ensures) ∙ c .before .before .slot .given .1), c .call-on .ensures)
 
-pub read-spec : {M : Type 1} → statement M
-read-spec =
+pub call-spec : {M : Type 1} → statement M
+call-spec =
     tie.close
     (tie.spec
     counts-fit-requires

@@ -2,8 +2,8 @@ use mathlib.Core.Path.{_∙_, sym}
 use borrow.Author.Tests.{not-true, not-false}
 use Rattle.capi.specs.Interface.{completionWords, completionStore}
 use borrow.Author.Needs.{needs}
-use Rattle.capi.proofs.zonefs_complete.Statement.{statement}
-use Rattle.capi.proofs.zonefs_complete.Tie as tie
+use Rattle.capi.proofs.end_command.Statement.{statement}
+use Rattle.capi.proofs.end_command.Tie as tie
 
 is-usable-requires : tie.Need-is-usable-requires
 is-usable-requires c κs = search needs
@@ -18,8 +18,8 @@ returns c = let e = sym (c .before .is-usable .ensures .0) ∙ not-true _ (c .if
 mount-from-requires : tie.Need-mount-from-requires
 mount-from-requires c κs = c .before .before .is-usable .ensures .1 (not-false _ (c .before .if1 .left)) .0
 
-complete-requires : tie.Need-complete-requires
-complete-requires c κs = search needs
+end-command-requires : tie.Need-end-command-requires
+end-command-requires c κs = search needs
 
 tell-requires : tie.Need-tell-requires
 tell-requires c κs = c .before .before .before .before .before .before .before .before .before .before .before .before .is-usable .ensures .1 (not-false _ (c .before .before .before .before .before .before .before .before .before .before .before .if1 .left))
@@ -40,19 +40,19 @@ returns-2 : tie.Need-returns-2
 unfolding completionWords completionStore
 returns-2 c = let e = sym (c .before .before .before .before .before .before .before .before .before .before .before .before .before .before .before .before .before .is-usable .ensures .0) ∙ not-false _ (c .before .before .before .before .before .before .before .before .before .before .before .before .before .before .before .before .if1 .left) in
     let t = c .before .before .before .before .tell .ensures in
-    let o = c .before .before .before .before .before .before .before .before .before .complete .ensures in
+    let o = c .before .before .before .before .before .before .before .before .before .end-command .ensures in
     let m = c .before .before .before .before .before .before .before .before .before .before .before .before .before .before .mount-from .ensures in
     (simp (e, t .0, o .0, m), (simp (e, t .1 .0, o .0, m), (simp (e, o .1 .0, m), (simp (e, o .1 .1, m), simp (e, t .1 .1, o .0, m)))))
 
-pub zonefs-complete-spec : {M : Type 1} → statement M
-zonefs-complete-spec =
+pub end-command-spec : {M : Type 1} → statement M
+end-command-spec =
     tie.close
     (tie.spec
     is-usable-requires
     same-length
     returns
     mount-from-requires
-    complete-requires
+    end-command-requires
     tell-requires
     same-length-2
     same-length-3

@@ -1,7 +1,7 @@
 use mathlib.Core.Path.{_∙_, sym}
 use borrow.Author.Needs.{needs}
-use Rattle.capi.proofs.no_kind.Statement.{statement}
-use Rattle.capi.proofs.no_kind.Tie as tie
+use Rattle.calls.proofs.no_kind.Statement.{statement}
+use Rattle.calls.proofs.no_kind.Tie as tie
 
 counts-fit-requires : tie.Need-counts-fit-requires
 counts-fit-requires c κs = search needs
