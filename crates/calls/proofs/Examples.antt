@@ -8,9 +8,11 @@ use lib.ListN.{getD}
 use Rattle.types.specs.declared.Volume.{Volume}
 use Rattle.types.specs.declared.FileKind.the-variants.{Sequential}
 use Rattle.calls.specs.declared.Name.the-variants.{Found, Nothing}
-use Rattle.calls.specs.Names.{decimal, digitsOf, nameOf, named}
+use Rattle.text.specs.Text.{decimal, digitsOf}
+use Rattle.text.proofs.Decimal.{decimal-digit, decimal-first}
+use Rattle.calls.specs.Names.{nameOf, named}
 use Rattle.calls.specs.Show.{lessWriting}
-use Rattle.calls.proofs.Decimal.{decimal-digit, decimal-first, not-empty}
+use Rattle.calls.proofs.Reading.{not-empty}
 use Rattle.calls.proofs.Naming.{name-parts, unnamed, named-file}
 
 -- the name `seq/` with these bytes behind it

@@ -11,6 +11,9 @@ use lib.ListN.{length, getD, take, drop, length-drop}
 use lib.Seq.{take-all}
 use lib.Dec.{eqb}
 use borrow.Author.Tests.{eqb-true, eq-eqb}
+use Rattle.text.specs.Text.{decimal, same}
+use Rattle.text.proofs.Decimal.{decimal-same}
+use Rattle.text.proofs.Same.{same-refl, same-eq, not-same}
 use Rattle.types.specs.declared.Volume.{Volume}
 use Rattle.types.specs.declared.FileKind.{FileKind}
 use Rattle.types.specs.declared.FileKind.the-variants.{Conventional, Sequential}
@@ -22,9 +25,8 @@ use Rattle.calls.specs.declared.Name.{Name}
 use Rattle.calls.specs.declared.Name.the-variants.{Found, Nothing}
 use Rattle.calls.specs.declared.Lookup.the-variants as lookup
 use Rattle.calls.specs.Checks.{mostFiles, filesOf, countsFit, lookupOf, soundSlot}
-use Rattle.calls.specs.Names.{prefixOf, decimal, nameOf, sameBytes, fileNamed, orElse, named, foundFile, foundName, findOf, NameTells}
+use Rattle.calls.specs.Names.{prefixOf, nameOf, fileNamed, orElse, named, foundFile, foundName, findOf, NameTells}
 use Rattle.calls.proofs.Laws.{counts-most, lookup-some, lookup-none, file-found}
-use Rattle.calls.proofs.Decimal.{decimal-same}
 
 -- THE FIRST FOUR BYTES
 
@@ -114,24 +116,6 @@ module _ (name : List ℕ) (l : 4 ≤ length name) where
   pub name-not-number : ((n : ℕ) → n < mostFiles → restOf name ≡ decimal n → ⊥) → (k : FileKind) (n : ℕ) → n < mostFiles → name ≡ nameOf k n → ⊥
   name-not-number h k n s e = h n s (name-parts _ _ _ _ (restOf name) k n (sym (split-four name l) ∙ e) .1)
 
--- THE SAME BYTES
-
-same-refl : (b : List ℕ) → sameBytes b b ≡ true
-same-refl [] = refl
-same-refl (x ∷ xs) = both (eq-eqb x x refl) (same-refl xs)
-
-same-eq : (b c : List ℕ) → sameBytes b c ≡ true → b ≡ c
-same-eq [] [] h = refl
-same-eq [] (y ∷ ys) h = absurd (false≢true h)
-same-eq (x ∷ xs) [] h = absurd (false≢true h)
-same-eq (x ∷ xs) (y ∷ ys) h =
-    let e : x ≡ y = eqb-true x y (and-left _ (sameBytes xs ys) h) in
-    let f : xs ≡ ys = same-eq xs ys (and-right (eqb x y) _ h) in
-    cc
-
-not-same : (b c : List ℕ) → (b ≡ c → ⊥) → sameBytes b c ≡ false
-not-same b c h = cases (sameBytes b c) (λ e. absurd (h (same-eq b c e))) (λ e. e)
-
 -- A FILE OF A NAME
 
 -- none, where the name is that of none of them
@@ -157,7 +141,7 @@ file-has : (k : FileKind) (files : ℕ) (name : List ℕ) (j : FileKind) (n : �
 unfolding fileNamed
 file-has k zero name j n e = absurd (let z : _≡_ {A = ℕ} 0 1 = cc in omega arith)
 file-has k (suc i) name j n e =
-    cases (sameBytes name (nameOf k i))
+    cases (same name (nameOf k i))
     (λ s.
     let q : Found k i ≡ Found j n = rw s at e in
     let r : i ≡ n = cc in

@@ -1,10 +1,10 @@
 -- Names: "Names are `cnv/` or `seq/` and a decimal without a leading zero: `seq/07` and `seq/1 ` match nothing."
-use Prim.Native.Nat.{ℕ, zero, suc, _+_, _/_, _%_, _<_}
+use Prim.Native.Nat.{ℕ, zero, suc, _<_}
 use mathlib.Core.Path.{_≡_}
 use mathlib.Core.List.{List, [], _∷_, _++_}
-use mathlib.Core.Bool.{Bool, true, false, cond, _&&_}
+use mathlib.Core.Bool.{cond}
 use lib.ListN.{length}
-use lib.Dec.{ltb, eqb}
+use Rattle.text.specs.Text.{same, decimal}
 use Rattle.types.specs.declared.Volume.{Volume}
 use Rattle.types.specs.declared.FileKind.{FileKind}
 use Rattle.types.specs.declared.FileKind.the-variants.{Conventional, Sequential}
@@ -26,34 +26,14 @@ abbrev pub prefixOf : FileKind → List ℕ
 prefixOf Conventional = 99 ∷ 110 ∷ 118 ∷ 47 ∷ []
 prefixOf Sequential = 115 ∷ 101 ∷ 113 ∷ 47 ∷ []
 
--- the byte of a digit: `0` is 48
-abbrev pub digitByte : ℕ → ℕ
-digitByte d = 48 + d
-
--- a number's digits, at most so many, the highest first: those of a tenth of it, and the last
-unfoldable pub digitsOf : ℕ → ℕ → List ℕ
-digitsOf zero n = []
-digitsOf (suc most) n = cond (ltb n 10) (digitByte n ∷ []) (digitsOf most (n / 10) ++ digitByte (n % 10) ∷ [])
-
--- "a decimal without a leading zero": it has no more digits than one more than the number
-abbrev pub decimal : ℕ → List ℕ
-decimal n = digitsOf (suc n) n
-
 -- the name of file n of a kind
 unfoldable pub nameOf : FileKind → ℕ → List ℕ
 nameOf k n = prefixOf k ++ decimal n
 
--- the same bytes
-abbrev pub sameBytes : List ℕ → List ℕ → Bool
-sameBytes [] [] = true
-sameBytes [] (y ∷ ys) = false
-sameBytes (x ∷ xs) [] = false
-sameBytes (x ∷ xs) (y ∷ ys) = eqb x y && sameBytes xs ys
-
 -- the file of a kind, among so many, whose name it is
 unfoldable pub fileNamed : FileKind → ℕ → List ℕ → Name
 fileNamed k zero name = Nothing
-fileNamed k (suc n) name = cond (sameBytes name (nameOf k n)) (Found k n) (fileNamed k n name)
+fileNamed k (suc n) name = cond (same name (nameOf k n)) (Found k n) (fileNamed k n name)
 
 abbrev pub orElse : Name → Name → Name
 orElse (Found k n) other = Found k n

@@ -13,7 +13,8 @@ use Rattle.crc32.specs.Crc.{crcFrom, crcByte, crcSteps, crcStep, superblockCrc}
 use Rattle.superblock.specs.declared.SuperRead.{SuperRead}
 use Rattle.superblock.specs.declared.SuperCheck.the-variants as sc
 use Rattle.superblock.specs.SuperBlock.{nonzero, refuse, superCheck, fieldsOf, superRead}
-use Rattle.options.specs.Options.{split, skipEmpty, same, pieceOf, optionsOf}
+use Rattle.text.specs.Text.{same}
+use Rattle.options.specs.Options.{split, skipEmpty, pieceOf, optionsOf}
 use Rattle.zones.specs.Zone.{goodRecord, goodZone}
 use Rattle.zones.specs.Report.{goodHeader, zonesFrom, zonesOf, goodRun, reportCheck}
 use Rattle.mount.specs.Files.{seqRows, runs, capacityOf, allHealthy, cnvRows}

@@ -9,8 +9,8 @@ use Rattle.types.specs.declared.ErrorPolicy.the-variants.{RemountRo, ZoneRo, Zo
 use Rattle.wire.specs.Le.{le}
 use Rattle.table.specs.Rows.{rowAt, setRow}
 use Rattle.options.specs.declared.Options.the-variants as op
-use Rattle.options.specs.Text.{ascii}
-use Rattle.options.specs.Options.{split, skipEmpty, same, pieceOf, optionsOf}
+use Rattle.text.specs.Text.{ascii, same}
+use Rattle.options.specs.Options.{split, skipEmpty, pieceOf, optionsOf}
 use Rattle.zones.specs.Zone.{goodRecord, goodZone}
 use Rattle.zones.specs.Report.{goodHeader, zonesFrom, zonesOf, goodRun, reportCheck}
 use Rattle.mount.specs.Files.{seqRows, runs, capacityOf, allHealthy, cnvRows}

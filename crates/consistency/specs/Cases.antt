@@ -11,7 +11,7 @@ use Rattle.types.specs.declared.Call.{Call}
 use Rattle.types.specs.declared.Answer.{Answer}
 use Rattle.types.specs.Numbers.{answerNumber, answerValues, mountNumber, mountValues}
 use Rattle.table.specs.Rows.{wordAt}
-use Rattle.options.specs.Text.{ascii}
+use Rattle.text.specs.Text.{ascii}
 use Rattle.zones.specs.declared.Zone.{Zone}
 use Rattle.mount.specs.Mount.{Mounting, mountOutcome}
 use Rattle.calls.specs.Calls.{outcomeOf}

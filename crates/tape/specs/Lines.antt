@@ -10,7 +10,14 @@ use Rattle.types.specs.declared.Answer.{Answer}
 use Rattle.types.specs.declared.Answer.the-variants.{Refused, Done, Issue}
 use Rattle.types.specs.declared.MountAnswer.{MountAnswer}
 use Rattle.types.specs.Numbers.{answerNumber, answerValues, mountNumber, mountValues, refusalNumber, refusalValues}
-use Rattle.tape.specs.Text.{field, fields}
+use Rattle.text.specs.Text.{field, fields}
+use Rattle.tape.specs.declared.lines.Value.{Value}
+use Rattle.tape.specs.declared.lines.Value.the-variants.{Of, Nothing}
+
+-- a value, or none, as a list
+abbrev pub listed : Value → List ℕ
+listed (Of n) = n ∷ []
+listed Nothing = []
 
 -- ---- marks: two letters
 

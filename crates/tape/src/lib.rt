@@ -1,7 +1,6 @@
 // A tape: its records, and the lines that they print.
 mod lines;
 mod records;
-mod text;
 
 ghost use mathlib.Core.Path.{_≡_};
 ghost use mathlib.Core.Bool.{true};
@@ -14,7 +13,7 @@ ghost use Rattle.tape.specs.Records.{opens};
 ghost use Rattle.tape.specs.Lines.{completionLine};
 ghost use Rattle.tape.specs.Tape.{turn, called, callTurn, brokenTurn, turnOf, turnAt, goesOn, mounting, openTurn, textFrom, textWith, tapeText, playedInto};
 ghost use Rattle.tape.specs.Told.{Stands, Opened, lineRoom, stateOf, restOf, Takes, Mounts};
-ghost use Rattle.tape.specs.Put.{Put, Fills};
+ghost use Rattle.text.specs.Put.{Put, Fills};
 use records::Record;
 use types::Answer;
 use types::Call;

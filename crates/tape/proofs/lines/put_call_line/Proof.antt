@@ -1,6 +1,6 @@
 use Rattle.tape.specs.Lines.{callLine}
 use native.Mathlib.Omega.{arith}
-use Rattle.tape.proofs.Stores.{then}
+use Rattle.text.proofs.Stores.{then}
 use borrow.Author.Needs.{needs}
 use Rattle.tape.proofs.lines.put_call_line.Statement.{statement}
 use Rattle.tape.proofs.lines.put_call_line.Tie as tie

@@ -1,5 +1,5 @@
 use native.Mathlib.Omega.{arith}
-use Rattle.tape.proofs.Stores.{then}
+use Rattle.text.proofs.Stores.{then}
 use borrow.Author.Needs.{needs}
 use Rattle.tape.proofs.lines.put_mount_answer.Statement.{statement}
 use Rattle.tape.proofs.lines.put_mount_answer.Tie as tie

@@ -1,5 +1,5 @@
 use native.Mathlib.Omega.{arith}
-use Rattle.tape.proofs.Stores.{then}
+use Rattle.text.proofs.Stores.{then}
 use Rattle.tape.specs.Lines.{mountLine}
 use borrow.Author.Needs.{needs}
 use Rattle.tape.proofs.lines.put_mount_line.Statement.{statement}

@@ -1,4 +1,4 @@
-use Rattle.tape.proofs.Stores.{then}
+use Rattle.text.proofs.Stores.{then}
 use borrow.Author.Needs.{needs}
 use Rattle.tape.proofs.lines.put_pair.Statement.{statement}
 use Rattle.tape.proofs.lines.put_pair.Tie as tie

@@ -1,5 +1,5 @@
 use native.Mathlib.Omega.{arith}
-use Rattle.tape.proofs.Stores.{then, nothing}
+use Rattle.text.proofs.Stores.{then, nothing}
 use borrow.Author.Needs.{needs}
 use Rattle.tape.proofs.lines.put_two_fields.Statement.{statement}
 use Rattle.tape.proofs.lines.put_two_fields.Tie as tie

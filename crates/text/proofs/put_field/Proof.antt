@@ -1,8 +1,8 @@
 use native.Mathlib.Omega.{arith}
-use Rattle.tape.proofs.Stores.{then}
+use Rattle.text.proofs.Stores.{then}
 use borrow.Author.Needs.{needs}
-use Rattle.tape.proofs.text.put_field.Statement.{statement}
-use Rattle.tape.proofs.text.put_field.Tie as tie
+use Rattle.text.proofs.put_field.Statement.{statement}
+use Rattle.text.proofs.put_field.Tie as tie
 
 put-byte-requires : tie.Need-put-byte-requires
 put-byte-requires c κs = search needs

@@ -3,10 +3,10 @@ use mathlib.Core.Path.{_≡_, sym, _∙_}
 use lib.ListN.{length, drop}
 use native.Mathlib.Omega.{arith}
 use borrow.Author.Needs.{needs}
-use Rattle.options.specs.Options.{same}
-use Rattle.options.proofs.Laws.{same-length, same-other, same-next, same-end}
-use Rattle.options.proofs.same_text.Statement.{statement}
-use Rattle.options.proofs.same_text.Tie as tie
+use Rattle.text.specs.Text.{same}
+use Rattle.text.proofs.Same.{same-length, same-other, same-next, same-end}
+use Rattle.text.proofs.same_text.Statement.{statement}
+use Rattle.text.proofs.same_text.Tie as tie
 
 abbrev Inv-loop : tie.InvT-loop
 Inv-loop a b i₀ i = (length a ≡ length b) × (i ≤ length a) × (same (drop i a) (drop i b) ≡ same a b)

@@ -1,11 +1,9 @@
 -- How the code puts text into lent bytes. No text is defined here.
 use Prim.Native.Nat.{ℕ, _+_, _≤_, _<_}
 use mathlib.Core.Path.{_≡_}
-use mathlib.Core.List.{List, [], _∷_}
+use mathlib.Core.List.{List}
 use lib.ListN.{length}
 use lib.Seq.{sets}
-use Rattle.tape.specs.declared.lines.Value.{Value}
-use Rattle.tape.specs.declared.lines.Value.the-variants.{Of, Nothing}
 
 -- a text was put into bytes at a place: what they hold then, and the place after it
 pub record Put (before after : List ℕ) (at next : ℕ) (text : List ℕ) : Type 0 where
@@ -17,8 +15,3 @@ pub record Fills (before after : List ℕ) (at next : ℕ) (text : List ℕ) : T
   pub bytes : after ≡ sets before at text
   pub place : next ≤ length before → next ≡ at + length text
   pub short : length before < next → length before < at + length text
-
--- a value, or none, as a list
-abbrev pub listed : Value → List ℕ
-listed (Of n) = n ∷ []
-listed Nothing = []

@@ -1,17 +1,17 @@
 use native.Mathlib.Omega.{arith}
 use Prim.Native.Nat.{_+_}
-use Rattle.tape.proofs.Stores.{then, last-digit, shorter, some-left}
-use Rattle.calls.proofs.Decimal.{decimal-one}
+use Rattle.text.proofs.Stores.{then}
+use Rattle.text.proofs.Decimal.{decimal-one, last-digit, shorter, some-left}
 use borrow.Author.Needs.{needs}
 use Prim.Native.Nat.{ℕ, _<_}
 use borrow.Fn.Kinds.{In}
 use borrow.Fn.PlainCycle.{Measures, is, falls, and}
-use Rattle.tape.proofs.text.put_digits.Reads as put-digits
-use Rattle.tape.proofs.text.put_digits.Kinds as put-digits-kinds
-use Rattle.tape.proofs.text.+put_digits.Lts-put_digits as put-digits-lts
-use Rattle.tape.proofs.text.put_byte.Reads as put-byte-reads
-use Rattle.tape.proofs.text.+put_digits.{statement}
-use Rattle.tape.proofs.text.+put_digits.Tie.{close}
+use Rattle.text.proofs.put_digits.Reads as put-digits
+use Rattle.text.proofs.put_digits.Kinds as put-digits-kinds
+use Rattle.text.proofs.+put_digits.Lts-put_digits as put-digits-lts
+use Rattle.text.proofs.put_byte.Reads as put-byte-reads
+use Rattle.text.proofs.+put_digits.{statement}
+use Rattle.text.proofs.+put_digits.Tie.{close}
 
 abbrev μ-put-digits : Measures 1 put-digits-kinds.ps ℕ
 μ-put-digits κs a = a .1 .1 .1 .0
