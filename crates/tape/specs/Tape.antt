@@ -11,10 +11,10 @@ use Rattle.types.specs.declared.Call.{Call}
 use Rattle.types.specs.declared.MountAnswer.{MountAnswer}
 use Rattle.types.specs.declared.MountAnswer.the-variants.{Refused, Mounted}
 use Rattle.types.specs.declared.Outcome.{Outcome}
+use Rattle.types.specs.Blocks.{mostFiles}
 use Rattle.types.specs.Mounts.{emptyMount}
 use Rattle.table.specs.Rows.{rowWidth}
 use Rattle.mount.specs.Mount.{Mounting, mountOutcome}
-use Rattle.calls.specs.Checks.{mostFiles}
 use Rattle.calls.specs.Calls.{outcomeOf, refusedWith}
 use Rattle.completion.specs.declared.Digest.{Digest}
 use Rattle.completion.specs.Completions.{Completion, good, completionOf, stored, digestOf}

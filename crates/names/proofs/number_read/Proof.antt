@@ -1,9 +1,9 @@
 use Prim.Native.Nat.{_-_}
 use native.Mathlib.Omega.{arith}
 use lib.ListN.{length, getD}
-use Rattle.calls.proofs.Reading.{ReadTo, a-digit-tested, no-digit-tested, read-start, read-more, read-whole, not-digit, not-leading, not-large, not-empty}
-use Rattle.calls.proofs.names.number_read.Statement.{statement}
-use Rattle.calls.proofs.names.number_read.Tie as tie
+use Rattle.names.proofs.Reading.{ReadTo, a-digit-tested, no-digit-tested, read-start, read-more, read-whole, not-digit, not-leading, not-large, not-empty}
+use Rattle.names.proofs.number_read.Statement.{statement}
+use Rattle.names.proofs.number_read.Tie as tie
 
 abbrev Inv-loop : tie.InvT-loop
 Inv-loop text value₀ i₀ value i = ReadTo text i value

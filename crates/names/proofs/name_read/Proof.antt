@@ -1,7 +1,7 @@
-use Rattle.calls.proofs.Naming.{name-short, name-is, name-not-kind, name-not-number}
+use Rattle.names.proofs.Naming.{name-short, name-is, name-not-kind, name-not-number}
 use borrow.Author.Needs.{needs}
-use Rattle.calls.proofs.names.name_read.Statement.{statement}
-use Rattle.calls.proofs.names.name_read.Tie as tie
+use Rattle.names.proofs.name_read.Statement.{statement}
+use Rattle.names.proofs.name_read.Tie as tie
 
 returns : tie.Need-returns
 returns c = λ k n s. name-short (c .before .before .args .name .now) (c .if1 .taken) k n

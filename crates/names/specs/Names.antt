@@ -3,23 +3,17 @@ use Prim.Native.Nat.{ℕ, zero, suc, _<_}
 use mathlib.Core.Path.{_≡_}
 use mathlib.Core.List.{List, [], _∷_, _++_}
 use mathlib.Core.Bool.{cond}
-use lib.ListN.{length}
 use Rattle.text.specs.Text.{same, decimal}
 use Rattle.types.specs.declared.Volume.{Volume}
 use Rattle.types.specs.declared.FileKind.{FileKind}
 use Rattle.types.specs.declared.FileKind.the-variants.{Conventional, Sequential}
-use Rattle.types.specs.declared.Refusal.the-variants as refusal
-use Rattle.types.specs.declared.FindAnswer.{FindAnswer}
-use Rattle.types.specs.declared.FindAnswer.the-variants as find
-use Rattle.calls.specs.declared.Name.{Name}
-use Rattle.calls.specs.declared.Name.the-variants.{Found, Nothing}
-use Rattle.calls.specs.declared.names.KindRead.{KindRead}
-use Rattle.calls.specs.declared.names.KindRead.the-variants as kindRead
-use Rattle.calls.specs.declared.names.NumberRead.{NumberRead}
-use Rattle.calls.specs.declared.names.NumberRead.the-variants as numberRead
-use Rattle.calls.specs.declared.Checked.{Checked}
-use Rattle.calls.specs.declared.Checked.the-variants as checked
-use Rattle.calls.specs.Checks.{mostFiles, countsFit, fileOf}
+use Rattle.types.specs.Blocks.{mostFiles}
+use Rattle.names.specs.declared.Name.{Name}
+use Rattle.names.specs.declared.Name.the-variants.{Found, Nothing}
+use Rattle.names.specs.declared.KindRead.{KindRead}
+use Rattle.names.specs.declared.KindRead.the-variants as kindRead
+use Rattle.names.specs.declared.NumberRead.{NumberRead}
+use Rattle.names.specs.declared.NumberRead.the-variants as numberRead
 
 -- the bytes `cnv/` and `seq/`
 abbrev pub prefixOf : FileKind → List ℕ
@@ -42,20 +36,6 @@ orElse Nothing other = other
 -- the file of a mount whose name it is
 unfoldable pub named : Volume → List ℕ → Name
 named v name = orElse (fileNamed Conventional (v .conventional) name) (fileNamed Sequential (v .sequential) name)
-
-abbrev pub foundFile : FileKind → ℕ → Checked → FindAnswer
-foundFile k n (checked.Good r) = find.Found k n
-foundFile k n (checked.Refused x) = find.Refused x
-
--- 1: "no such .. name"; then as of the file
-abbrev pub foundName : Volume → List ℕ → List ℕ → Name → FindAnswer
-foundName v cnv seq (Found k n) = foundFile k n (fileOf v cnv seq k n)
-foundName v cnv seq Nothing = find.Refused refusal.NoFile
-
--- 10 (counts), 1, 10 (row), "stops before 2"
-abbrev pub findOf : Volume → List ℕ → List ℕ → List ℕ → FindAnswer
-findOf v cnv seq name =
-    cond (countsFit v (length cnv) (length seq)) (foundName v cnv seq (named v name)) (find.Refused refusal.Impossible)
 
 -- ---- what the parts of a name tell, to whoever reads it
 

@@ -17,16 +17,12 @@ use Rattle.text.proofs.Same.{same-refl, same-eq, not-same}
 use Rattle.types.specs.declared.Volume.{Volume}
 use Rattle.types.specs.declared.FileKind.{FileKind}
 use Rattle.types.specs.declared.FileKind.the-variants.{Conventional, Sequential}
-use Rattle.types.specs.declared.Refusal.the-variants as refusal
-use Rattle.types.specs.declared.FindAnswer.the-variants as find
-use Rattle.table.specs.declared.Slot.{Slot}
+use Rattle.types.specs.Blocks.{mostFiles}
+use Rattle.types.specs.Kinds.{filesOf}
 use Rattle.types.proofs.Tests.{both, and-left, and-right, cases}
-use Rattle.calls.specs.declared.Name.{Name}
-use Rattle.calls.specs.declared.Name.the-variants.{Found, Nothing}
-use Rattle.calls.specs.declared.Lookup.the-variants as lookup
-use Rattle.calls.specs.Checks.{mostFiles, filesOf, countsFit, lookupOf, soundSlot}
-use Rattle.calls.specs.Names.{prefixOf, nameOf, fileNamed, orElse, named, foundFile, foundName, findOf, NameTells}
-use Rattle.calls.proofs.Laws.{counts-most, lookup-some, lookup-none, file-found}
+use Rattle.names.specs.declared.Name.{Name}
+use Rattle.names.specs.declared.Name.the-variants.{Found, Nothing}
+use Rattle.names.specs.Names.{prefixOf, nameOf, fileNamed, orElse, named}
 
 -- THE FIRST FOUR BYTES
 
@@ -188,24 +184,3 @@ module _ (v : Volume) (name : List ℕ) where
           → (name ≡ nameOf k n) × (n < filesOf k v)
       first (Found j i) f q = of-kind Conventional (f ∙ q)
       first Nothing f q = of-kind Sequential q
-
--- FINDING
-
-module _ (v : Volume) (cnv seq name : List ℕ) (h : countsFit v (length cnv) (length seq) ≡ true) where
-  -- past the counts
-  find-counted : (x : Name) → named v name ≡ x → findOf v cnv seq name ≡ foundName v cnv seq x
-  find-counted x e = rw (h, e)
-
-  -- a text that is the name of no file
-  pub find-unnamed : NameTells name Nothing → findOf v cnv seq name ≡ find.Refused refusal.NoFile
-  find-unnamed t = find-counted Nothing (unnamed v name (λ k n l. t k n (omega (arith, counts-most v (length cnv) (length seq) h k))))
-
-  -- the name of a file that the mount doesn't have
-  pub find-none : (k : FileKind) (n : ℕ) → name ≡ nameOf k n → lookupOf v cnv seq k n ≡ lookup.Nothing → findOf v cnv seq name ≡ find.Refused refusal.NoFile
-  find-none k n t e = find-counted Nothing (named-none v name k n t (lookup-none v cnv seq k n e))
-
-  -- and of one that it has
-  pub find-file : (k : FileKind) (n : ℕ) (x : Slot) → name ≡ nameOf k n → lookupOf v cnv seq k n ≡ lookup.Found x
-      → findOf v cnv seq name ≡ foundFile k n (soundSlot (v .block) k x)
-  find-file k n x t e =
-      find-counted (Found k n) (named-file v name k n t (lookup-some v cnv seq k n x e)) ∙ ap (foundFile k n) (file-found v cnv seq k n h e)

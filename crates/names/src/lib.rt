@@ -1,9 +1,13 @@
 // What a name says: `cnv/` or `seq/`, and a decimal without a leading zero.
 ghost use mathlib.Core.List.{[], _∷_};
-ghost use Rattle.calls.specs.Names.{KindTells, NumberTells, NameTells};
-use crate::Name;
-use crate::checks;
+ghost use Rattle.names.specs.Names.{KindTells, NumberTells, NameTells};
 use types::FileKind;
+
+// What a name says: a file, or nothing.
+pub enum Name {
+    Found(FileKind, u32),
+    Nothing,
+}
 
 // What the first four bytes of a name say.
 pub enum KindRead {
@@ -45,7 +49,7 @@ fn number_read(text: &[u8]) -> NumberRead
             return NumberRead::Nothing;
         }
         value = value * 10 + ((byte - b'0') as u32);
-        if checks::MOST_FILES <= value {
+        if types::MOST_FILES <= value {
             return NumberRead::Nothing;
         }
         i += 1;

@@ -1,6 +1,6 @@
-use Rattle.calls.proofs.Naming.{four-same, no-prefix}
-use Rattle.calls.proofs.names.kind_read.Statement.{statement}
-use Rattle.calls.proofs.names.kind_read.Tie as tie
+use Rattle.names.proofs.Naming.{four-same, no-prefix}
+use Rattle.names.proofs.kind_read.Statement.{statement}
+use Rattle.names.proofs.kind_read.Tie as tie
 
 returns : tie.Need-returns
 returns c = let a = c .before .args in four-same (a .a) (a .b) (a .c) (a .d) 99 110 118 47 (c .if1 .taken)

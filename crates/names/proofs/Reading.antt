@@ -11,10 +11,10 @@ use lib.ListN.{length, getD, take, drop, take-append-drop}
 use lib.Seq.{take-suc, take-length, getD-take}
 use lib.Dec.{ltb, eqb}
 use borrow.Author.Tests.{ltb-true, ltb-false, lt-ltb, le-ltb, eqb-true, eqb-false}
+use Rattle.types.specs.Blocks.{mostFiles}
 use Rattle.types.proofs.Tests.{and-left, and-right, or-left, or-right}
 use Rattle.text.specs.Text.{digitByte, digitsOf, decimal}
 use Rattle.text.proofs.Decimal.{IsDigit, decimal-one, decimal-more, decimal-some, decimal-digit, decimal-first, valueFrom, value-append, value-grows, decimal-value}
-use Rattle.calls.specs.Checks.{mostFiles}
 
 -- a digit, as the code tests it
 pub a-digit-tested : (b : ℕ) → ltb b 48 || ltb 57 b ≡ false → IsDigit b
