@@ -10,13 +10,13 @@ pub enum Name {
 }
 
 // What the first four bytes of a name say.
-pub enum KindRead {
+enum KindRead {
     Is(FileKind),
     Nothing,
 }
 
 // What the rest of a name says.
-pub enum NumberRead {
+enum NumberRead {
     Is(u32),
     Nothing,
 }

@@ -23,7 +23,7 @@ use Rattle.tape.specs.declared.records.Record.the-variants.{OnFile, Good
 use Rattle.tape.specs.declared.Played.{Played}
 use Rattle.tape.specs.declared.Played.the-variants.{Written, TooShort}
 use Rattle.tape.specs.Records.{recordAt, callBytes, goodBytes, failedBytes, opens, blockOf, superOf, reportOf, optionsOf, runPlace}
-use Rattle.tape.specs.Lines.{goodMark, failedMark, callLine, completionLine, mountLine, brokenLine}
+use Rattle.lines.specs.Lines.{goodMark, failedMark, callLine, completionLine, mountLine, brokenLine}
 
 -- what each record finds: the mount value, and the words of both tables
 pub record State : Type 0 where

@@ -1,5 +1,4 @@
 // A tape: its records, and the lines that they print.
-mod lines;
 mod records;
 
 ghost use mathlib.Core.Path.{_≡_};
@@ -10,7 +9,7 @@ ghost use lib.ListN.{length, take, set};
 ghost use lib.Seq.{sets};
 ghost use Rattle.calls.specs.Calls.{outcomeOf};
 ghost use Rattle.tape.specs.Records.{opens};
-ghost use Rattle.tape.specs.Lines.{completionLine};
+ghost use Rattle.lines.specs.Lines.{completionLine};
 ghost use Rattle.tape.specs.Tape.{turn, called, callTurn, brokenTurn, turnOf, turnAt, goesOn, mounting, openTurn, textFrom, textWith, tapeText, playedInto};
 ghost use Rattle.tape.specs.Told.{Stands, Opened, lineRoom, stateOf, restOf, Takes, Mounts};
 ghost use Rattle.text.specs.Put.{Put, Fills};
