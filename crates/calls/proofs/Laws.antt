@@ -25,7 +25,8 @@ use Rattle.types.specs.declared.Answer.{Answer}
 use Rattle.types.specs.declared.Answer.the-variants.{Refused, Issue}
 use Rattle.types.specs.declared.Outstanding.{Outstanding}
 use Rattle.types.specs.declared.Outstanding.the-variants.{Idle, Busy}
-use Rattle.types.specs.Blocks.{sectorBytes, blockSectors, goodBlock, onBlock}
+use Rattle.types.specs.Blocks.{sectorBytes, blockSectors, goodBlock, onBlock, mostFiles}
+use Rattle.types.specs.Kinds.{ofKind, filesOf}
 use Rattle.types.proofs.Tests.{both, and-left, and-right, means-in, means-out}
 use Rattle.types.proofs.Blocks.{IsBlock, small, large, is-block}
 use Rattle.table.specs.declared.Slot.{Slot}
@@ -35,7 +36,7 @@ use Rattle.calls.specs.declared.Lookup.{Lookup}
 use Rattle.calls.specs.declared.Lookup.the-variants as lookup
 use Rattle.calls.specs.declared.Checked.{Checked}
 use Rattle.calls.specs.declared.Checked.the-variants as checked
-use Rattle.calls.specs.Checks.{mostFiles, filesFit, countsFit, ofKind, filesOf, rowIn, lookupOf, means, isConventional, isReadOnly, isOffline, isNone, isWrite, allowed, full, soundRow, soundSlot, foundRow, fileOf, isBusy}
+use Rattle.calls.specs.Checks.{filesFit, countsFit, rowIn, lookupOf, means, isConventional, isReadOnly, isOffline, isNone, isWrite, allowed, full, soundRow, soundSlot, foundRow, fileOf, isBusy}
 use Rattle.calls.specs.Calls.{refuse, atOnce, answerOf, onFile, answered}
 use Rattle.calls.specs.Told.{Sound, Reached, Passed}
 

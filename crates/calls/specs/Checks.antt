@@ -17,7 +17,8 @@ use Rattle.types.specs.declared.Refusal.{Refusal}
 use Rattle.types.specs.declared.Refusal.the-variants as refusal
 use Rattle.types.specs.declared.Outstanding.{Outstanding}
 use Rattle.types.specs.declared.Outstanding.the-variants.{Idle, Busy}
-use Rattle.types.specs.Blocks.{sectorBytes, blockSectors, goodBlock, onBlock, wholeBlocks, endsInReach}
+use Rattle.types.specs.Blocks.{sectorBytes, blockSectors, goodBlock, onBlock, wholeBlocks, endsInReach, mostFiles}
+use Rattle.types.specs.Kinds.{ofKind, filesOf}
 use Rattle.table.specs.declared.Slot.{Slot}
 use Rattle.table.specs.declared.Slot.the-variants as slot
 use Rattle.table.specs.Rows.{rowsLent, rowAt}
@@ -28,10 +29,6 @@ use Rattle.calls.specs.declared.Checked.the-variants.{Good, Refused}
 
 -- ---- 10 (counts): "more files of either kind than rows lent or than 1,022, a wrong block"
 
--- the most files of a kind
-abbrev pub mostFiles : ℕ
-mostFiles = 1022
-
 abbrev pub filesFit : ℕ → ℕ → Bool
 filesFit files words = leb files (rowsLent words) && leb files mostFiles
 
@@ -40,14 +37,6 @@ unfoldable pub countsFit : Volume → ℕ → ℕ → Bool
 countsFit v cnv seq = filesFit (v .conventional) cnv && filesFit (v .sequential) seq && goodBlock (v .block)
 
 -- ---- 1: "no such file"
-
--- of two things, that of the conventional and that of the sequential files
-abbrev pub ofKind : {A : Type 0} → FileKind → A → A → A
-ofKind Conventional cnv seq = cnv
-ofKind Sequential cnv seq = seq
-
-abbrev pub filesOf : FileKind → Volume → ℕ
-filesOf k v = ofKind k (v .conventional) (v .sequential)
 
 -- the file of number i among a table's files
 abbrev pub rowIn : List ℕ → ℕ → ℕ → Lookup

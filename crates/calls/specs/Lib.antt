@@ -1,5 +1,5 @@
 pub mod Calls
 pub mod Checks
-pub mod Names
+pub mod Find
 pub mod Show
 pub mod Told

@@ -13,11 +13,12 @@ use Rattle.types.specs.declared.Condition.the-variants as condition
 use Rattle.types.specs.declared.Access.the-variants as access
 use Rattle.types.specs.declared.Outstanding.the-variants.{Idle}
 use Rattle.types.specs.Blocks.{sectorBytes, blockSectors}
+use Rattle.types.specs.Kinds.{ofKind, filesOf}
 use Rattle.table.specs.declared.Slot.the-variants as slot
 use Rattle.table.specs.Rows.{rowAt}
 use Rattle.calls.specs.declared.Checked.{Checked}
 use Rattle.calls.specs.declared.Checked.the-variants as checked
-use Rattle.calls.specs.Checks.{countsFit, filesOf, ofKind, soundRow}
+use Rattle.calls.specs.Checks.{countsFit, soundRow}
 
 -- 10 (row), clause by clause
 pub record Sound (block : ℕ) (k : FileKind) (r : Row) : Type 0 where

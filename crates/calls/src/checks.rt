@@ -17,13 +17,10 @@ use types::Refusal;
 use types::Row;
 use types::Volume;
 
-// The most files of a kind.
-pub const MOST_FILES: u32 = 1022;
-
 fn files_fit(files: u32, words: usize) -> bool
     ensures { λ r. ⌜ r ≡ filesFit files words ⌝ }
 {
-    (files as usize <= table::rows_lent(words)) & (files <= MOST_FILES)
+    (files as usize <= table::rows_lent(words)) & (files <= types::MOST_FILES)
 }
 
 // Check 10, of the counts: no more files of either kind than rows lent or than any mount has, and a block that is one.

@@ -1,6 +1,5 @@
 // The calls on a mounted volume: finding a name, showing a file, read, write, truncate and flush. None of them changes a table.
 pub mod checks; // the checks that all calls share
-pub mod names; // what a name says
 pub mod rows; // what each call answers on its row
 
 ghost use mathlib.Core.Path.{_≡_};
@@ -9,9 +8,10 @@ ghost use Rattle.types.specs.declared.Call.{Call};
 ghost use Rattle.types.specs.Blocks.{goodBlock};
 ghost use Rattle.calls.specs.Checks.{soundSlot, isBusy};
 ghost use Rattle.calls.specs.Calls.{onFile, settled, outcomeOf, refusedWith, noKind, outcomeBy};
-ghost use Rattle.calls.specs.Names.{foundFile, findOf};
+ghost use Rattle.calls.specs.Find.{foundFile, findOf};
 ghost use Rattle.calls.specs.Show.{lessWriting, modeShown, shown, showOf};
 ghost use Rattle.calls.specs.Told.{Ends};
+use names::Name;
 use table::Slot;
 use types::Access;
 use types::Answer;
@@ -37,12 +37,6 @@ pub enum Lookup {
 pub enum Checked {
     Good(Row),
     Refused(Refusal),
-}
-
-// What a name says: a file, or nothing.
-pub enum Name {
-    Found(FileKind, u32),
-    Nothing,
 }
 
 fn found_file(kind: FileKind, number: u32, file: Checked) -> FindAnswer

@@ -23,8 +23,9 @@ use Rattle.types.specs.declared.CommandKind.the-variants as command
 use Rattle.types.specs.declared.Outstanding.{Outstanding}
 use Rattle.types.specs.declared.Outstanding.the-variants.{Idle, Busy}
 use Rattle.types.specs.Codes.{kindCode, kindFrom, policyCode, commandCode}
-use Rattle.wire.specs.Le.{le}
-use Rattle.capi.specs.Words.{mountLength, mark, isHeld, heldIn, mountWords, written, withState, possible, bytesFrom, shortOf, isMarked, policyFrom, commandFrom, mountFrom}
+use Rattle.wire.specs.Le.{le, little}
+use Rattle.wire.proofs.Laws.{little-le}
+use Rattle.capi.specs.Words.{mountLength, mark, isHeld, heldIn, mountWords, written, withState, possible, shortOf, isMarked, policyFrom, commandFrom, mountFrom}
 
 -- words put in front are these words, and then what was there
 pub written-front : (w values : List ℕ) → length values ≤ length w → written w values ≡ values ++ drop (length values) w
@@ -81,26 +82,10 @@ mark-small false = refl
 
 -- BYTES
 
--- n bytes from `at` on, back from their number
-bytes-back : (n : ℕ) (b : List ℕ) (at : ℕ) → ((k : ℕ) → getD b k 0 < 256) → at + n ≤ length b → bytesFrom n (le n b at) ≡ take n (drop at b)
-unfolding bytesFrom le
-bytes-back zero b at small h = refl
-bytes-back (suc n) b at small h =
-    let x = getD b at 0 in
-    let y = le n b (at + 1) in
-    let low : (x + 256 * y) % 256 ≡ x = omega (arith, small at) in
-    let high : (x + 256 * y) / 256 ≡ y = omega (arith, small at) in
-    let inside : at < length b = omega arith in
-    ap (λ (k : ℕ). k ∷ bytesFrom n ((x + 256 * y) / 256)) low
-    ∙ ap (λ (q : ℕ). x ∷ bytesFrom n q) high
-    ∙ ap (λ (l : List ℕ). x ∷ l) (bytes-back n b (at + 1) small (omega arith))
-    ∙ ap (λ (k : ℕ). x ∷ take n (drop k b)) (add-one at)
-    ∙ sym (ap (take (suc n)) (drop-cons b at 0 inside))
-
-uuid-back : (u : List ℕ) → ((k : ℕ) → getD u k 0 < 256) → length u ≡ 16 → bytesFrom 8 (le 8 u 0) ++ bytesFrom 8 (le 8 u 8) ≡ u
+uuid-back : (u : List ℕ) → ((k : ℕ) → getD u k 0 < 256) → length u ≡ 16 → little 8 (le 8 u 0) ++ little 8 (le 8 u 8) ≡ u
 uuid-back u small h =
-    ap (λ (l : List ℕ). l ++ bytesFrom 8 (le 8 u 8)) (bytes-back 8 u 0 small (omega arith))
-    ∙ ap (λ (l : List ℕ). take 8 u ++ l) (bytes-back 8 u 8 small (omega arith) ∙ take-all 8 (drop 8 u) (omega (arith, length-drop 8 u)))
+    ap (λ (l : List ℕ). l ++ little 8 (le 8 u 8)) (little-le 8 u 0 small (omega arith))
+    ∙ ap (λ (l : List ℕ). take 8 u ++ l) (little-le 8 u 8 small (omega arith) ∙ take-all 8 (drop 8 u) (omega (arith, length-drop 8 u)))
     ∙ take-append-drop 8 u
 
 -- A MOUNT VALUE

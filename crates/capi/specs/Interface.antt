@@ -15,7 +15,7 @@ use Rattle.types.specs.declared.ShowAnswer.the-variants as show
 use Rattle.types.specs.Codes.{kindFrom}
 use Rattle.types.specs.Numbers.{refusalNumber, answerNumber, answerValues, mountNumber, mountValues, findNumber, findValues, showNumber, showValues}
 use Rattle.mount.specs.Mount.{mountOutcome}
-use Rattle.calls.specs.Names.{findOf}
+use Rattle.calls.specs.Find.{findOf}
 use Rattle.calls.specs.Show.{showOf}
 use Rattle.calls.specs.Calls.{isKind, noKind, outcomeBy}
 use Rattle.completion.specs.declared.Store.{Store}

@@ -1,5 +1,5 @@
 -- A mount value in the words that a caller keeps: where each field stands, which words hold a mount value, and which one.
-use Prim.Native.Nat.{ℕ, zero, suc, _/_, _%_, _^_}
+use Prim.Native.Nat.{ℕ, _%_, _^_}
 use mathlib.Core.List.{List, [], _∷_, _++_}
 use mathlib.Core.Bool.{Bool, true, false, cond, not, _&&_}
 use lib.ListN.{length, getD}
@@ -16,7 +16,7 @@ use Rattle.types.specs.declared.CommandKind.the-variants as command
 use Rattle.types.specs.declared.Outstanding.{Outstanding}
 use Rattle.types.specs.declared.Outstanding.the-variants.{Idle, Busy}
 use Rattle.types.specs.Codes.{kindCode, kindFrom, policyCode, commandCode}
-use Rattle.wire.specs.Le.{le}
+use Rattle.wire.specs.Le.{le, little}
 
 -- ---- the words of a mount value
 
@@ -90,11 +90,6 @@ possible w = leb mountLength (length w) && (goodVolume w && goodState w)
 
 -- ---- the mount value of words
 
--- the last n bytes of a number, the lowest first
-unfoldable pub bytesFrom : ℕ → ℕ → List ℕ
-bytesFrom zero x = []
-bytesFrom (suc n) x = x % 256 ∷ bytesFrom n (x / 256)
-
 -- of possible words: the number itself
 abbrev pub shortOf : ℕ → ℕ
 shortOf n = n % 2 ^ 32
@@ -120,7 +115,7 @@ volumeFrom w =
       group = shortOf (word w 4);
       mode = shortOf (word w 5);
       policy = policyFrom (word w 6);
-      uuid = bytesFrom 8 (word w 7) ++ bytesFrom 8 (word w 8);
+      uuid = little 8 (word w 7) ++ little 8 (word w 8);
     }
 
 abbrev pub heldFrom : List ℕ → Held

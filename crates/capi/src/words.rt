@@ -5,8 +5,8 @@ ghost use Prim.Native.Nat.{_%_, _^_, _≤_};
 ghost use lib.ListN.{length};
 ghost use lib.Seq.{sets};
 ghost use mathlib.Core.List.{_++_};
-ghost use Rattle.wire.specs.Le.{le};
-ghost use Rattle.capi.specs.Words.{mountLength, volumeWords, isHeld, heldIn, mark, heldWords, mountWords, written, withState, short, goodVolume, goodState, possible, bytesFrom, shortOf, policyFrom, commandFrom, volumeFrom, heldFrom, outstandingFrom, mountFrom};
+ghost use Rattle.wire.specs.Le.{le, little};
+ghost use Rattle.capi.specs.Words.{mountLength, volumeWords, isHeld, heldIn, mark, heldWords, mountWords, written, withState, short, goodVolume, goodState, possible, shortOf, policyFrom, commandFrom, volumeFrom, heldFrom, outstandingFrom, mountFrom};
 use types::Command;
 use types::CommandKind;
 use types::ErrorPolicy;
@@ -61,7 +61,7 @@ fn low_byte(x: u64) -> u8
 
 // The eight bytes of a number, the lowest first.
 fn bytes_from(x: u64) -> [u8; 8]
-    ensures { λ r. ⌜ r ≡ bytesFrom 8 x ⌝ }
+    ensures { λ r. ⌜ r ≡ little 8 x ⌝ }
 {
     let b = x / 256;
     let c = b / 256;
@@ -83,7 +83,7 @@ fn bytes_from(x: u64) -> [u8; 8]
 }
 
 fn uuid_from(low: u64, high: u64) -> [u8; 16]
-    ensures { λ r. ⌜ r ≡ bytesFrom 8 low ++ bytesFrom 8 high ⌝ }
+    ensures { λ r. ⌜ r ≡ little 8 low ++ little 8 high ⌝ }
 {
     let a = bytes_from(low);
     let b = bytes_from(high);

@@ -9,8 +9,8 @@ use Rattle.types.specs.declared.CommandKind.the-variants as kind
 use Rattle.types.specs.declared.FileKind.{FileKind}
 use Rattle.types.specs.declared.FileKind.the-variants.{Sequential}
 use Rattle.types.specs.Blocks.{sectorBytes, goodBlock}
+use Rattle.types.specs.Kinds.{ofKind}
 use Rattle.table.specs.Rows.{rowsLent}
-use Rattle.calls.specs.Checks.{ofKind}
 use Rattle.zones.specs.declared.Zone.{Zone}
 use Rattle.zones.specs.Zone.{sequential, pointed}
 use Rattle.zones.specs.Told.{Sound}

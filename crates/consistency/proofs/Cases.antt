@@ -8,12 +8,13 @@ use Rattle.types.specs.declared.ErrorPolicy.the-variants.{Repair}
 use Rattle.types.specs.declared.Outstanding.the-variants.{Idle}
 use Rattle.types.specs.declared.MountAnswer.the-variants.{Mounted}
 use mathlib.Core.Path.{_≡_, refl, ap}
-use Rattle.wire.specs.Le.{le}
+use Rattle.wire.specs.Le.{le, little}
 use Rattle.crc32.specs.Crc.{crcFrom, crcByte, crcSteps, crcStep, superblockCrc}
 use Rattle.superblock.specs.declared.SuperRead.{SuperRead}
 use Rattle.superblock.specs.declared.SuperCheck.the-variants as sc
 use Rattle.superblock.specs.SuperBlock.{nonzero, refuse, superCheck, fieldsOf, superRead}
-use Rattle.options.specs.Options.{split, skipEmpty, same, pieceOf, optionsOf}
+use Rattle.text.specs.Text.{same}
+use Rattle.options.specs.Options.{split, skipEmpty, pieceOf, optionsOf}
 use Rattle.zones.specs.Zone.{goodRecord, goodZone}
 use Rattle.zones.specs.Report.{goodHeader, zonesFrom, zonesOf, goodRun, reportCheck}
 use Rattle.mount.specs.Files.{seqRows, runs, capacityOf, allHealthy, cnvRows}
@@ -26,7 +27,7 @@ use Rattle.calls.specs.Calls.{atOnce, readRow, writeRow, truncateRow, flushRow}
 use Rattle.calls.specs.Calls as calls
 use Rattle.completion.specs.Held.{issuable, pendingOf}
 use Rattle.completion.specs.Completions.{completionOf, succeeded, matchesSequential, withinConventional, recordFits, recoveredRow, recovered, digestOf}
-use Rattle.consistency.specs.Report.{little, recordThen, recordsThen, reportFrom}
+use Rattle.consistency.specs.Report.{recordThen, recordsThen, reportFrom}
 use Rattle.consistency.specs.Cases.{report, superblock, uuidEnd, mounting, Case, casesOf, Starred}
 
 -- the super blocks are good, and say this

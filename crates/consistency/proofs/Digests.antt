@@ -17,9 +17,9 @@ use Rattle.types.specs.declared.Answer.the-variants.{Refused, Done}
 use Rattle.types.specs.declared.ErrorPolicy.{ErrorPolicy}
 use Rattle.types.specs.declared.ErrorPolicy.the-variants.{RemountRo, ZoneRo, ZoneOffline, Repair}
 use Rattle.types.specs.declared.Outstanding.the-variants.{Idle}
+use Rattle.types.specs.Kinds.{ofKind}
 use Rattle.types.specs.Mounts.{cleared}
 use Rattle.table.specs.Rows.{rowsLent}
-use Rattle.calls.specs.Checks.{ofKind}
 use Rattle.calls.proofs.Laws.{reached-lent}
 use Rattle.zones.specs.declared.Zone.{Zone}
 use Rattle.completion.specs.declared.Digest.{Digest}

@@ -19,10 +19,10 @@ use Rattle.types.specs.declared.Answer.{Answer}
 use Rattle.types.specs.declared.Answer.the-variants.{Refused, Done, Issue}
 use Rattle.types.specs.declared.Outstanding.{Outstanding}
 use Rattle.types.specs.declared.Outstanding.the-variants.{Busy}
+use Rattle.types.specs.Kinds.{ofKind}
 use Rattle.types.specs.Mounts.{cleared}
 use Rattle.types.specs.Numbers.{answerNumber}
 use Rattle.table.proofs.Laws.{setRow-length, word-outside}
-use Rattle.calls.specs.Checks.{ofKind}
 use Rattle.calls.specs.Calls.{settled, answered}
 use Rattle.zones.specs.declared.Zone.{Zone}
 use Rattle.completion.specs.declared.Store.the-variants as store

@@ -5,7 +5,7 @@ use mathlib.Core.List.{List, [], _∷_, _++_, map}
 use mathlib.Core.Path.{_≡_, refl, sym, ap, _∙_, subst}
 use Prim.Native.Nat.{ℕ, zero, suc, _+_, _*_, _/_, _%_, _^_, _≤_, _<_}
 use native.Mathlib.Omega.{arith}
-use native.Mathlib.Nat.{pow-suc, add-zero}
+use native.Mathlib.Nat.{add-zero}
 use lib.Dec.{eqb}
 use lib.ListN.{length, getD, drop}
 use lib.Seq.{getD-drop, drop-drop}
@@ -15,34 +15,18 @@ use Rattle.types.specs.declared.FileKind.the-variants.{Conventional, Sequential
 use Rattle.types.specs.declared.Condition.{Condition}
 use Rattle.types.specs.declared.Condition.the-variants.{Healthy, ReadOnly, Offline}
 use Rattle.types.proofs.Tests.{both}
-use Rattle.wire.specs.Le.{le}
+use Rattle.wire.specs.Le.{le, little}
+use Rattle.wire.proofs.Laws.{le-little}
 use Rattle.zones.specs.declared.Zone.{Zone}
 use Rattle.zones.specs.Zone.{zoneAt}
 use Rattle.zones.specs.Report.{zoneCount, capacityGiven, goodHeader, zoneOf, zonesFrom, zonesOf}
 use Rattle.consistency.specs.Disk.{DiskZone, typeByte, healthyByte, conditionByte, reported}
-use Rattle.consistency.specs.Report.{little, recordThen, recordsThen, reportFrom, reportOf}
+use Rattle.consistency.specs.Report.{recordThen, recordsThen, reportFrom, reportOf}
 use Rattle.consistency.specs.Shows.{ShowsZone, ShowsZones, Shows, none, next}
 use Rattle.consistency.proofs.Sound.{Sound, kind-shown, reported-shows}
 use Rattle.consistency.proofs.Fresh.{map-length}
 
 -- A NUMBER'S BYTES
-le-cons : (n x : ℕ) (l : List ℕ) (k : ℕ) → le n (x ∷ l) (suc k) ≡ le n l k
-unfolding le
-le-cons zero x l k = refl
-le-cons (suc n) x l k =
-    let e : suc k + 1 ≡ suc (k + 1) = omega arith in
-    ap (λ m. getD l k 0 + 256 * m) (ap (le n (x ∷ l)) e ∙ le-cons n x l (k + 1))
-
-le-little : (n v : ℕ) (l : List ℕ) → v < 256 ^ n → le n (little n v ++ l) 0 ≡ v
-unfolding le little
-le-little zero v l h = omega (arith, h)
-le-little (suc n) v l h =
-    let p : 256 ^ suc n ≡ 256 ^ n * 256 = pow-suc 256 n in
-    let m : ℕ = 256 ^ n in
-    let low : v / 256 < 256 ^ n = omega (arith, h, p) in
-    let rest : le n (v % 256 ∷ little n (v / 256) ++ l) 1 ≡ v / 256 = le-cons n (v % 256) (little n (v / 256) ++ l) 0 ∙ le-little n (v / 256) l low in
-    ap (λ k. v % 256 + 256 * k) rest ∙ omega arith
-
 le-drop : (n at : ℕ) (b : List ℕ) (k : ℕ) → le n (drop at b) k ≡ le n b (at + k)
 unfolding le
 le-drop zero at b k = refl

@@ -6,11 +6,11 @@ use mathlib.Core.Path.{_≡_, refl}
 use Prim.Native.String.{String}
 use Rattle.types.specs.declared.ErrorPolicy.{ErrorPolicy}
 use Rattle.types.specs.declared.ErrorPolicy.the-variants.{RemountRo, ZoneRo, ZoneOffline, Repair}
-use Rattle.wire.specs.Le.{le}
+use Rattle.wire.specs.Le.{le, little}
 use Rattle.table.specs.Rows.{rowAt, setRow}
 use Rattle.options.specs.declared.Options.the-variants as op
-use Rattle.options.specs.Text.{ascii}
-use Rattle.options.specs.Options.{split, skipEmpty, same, pieceOf, optionsOf}
+use Rattle.text.specs.Text.{ascii, same}
+use Rattle.options.specs.Options.{split, skipEmpty, pieceOf, optionsOf}
 use Rattle.zones.specs.Zone.{goodRecord, goodZone}
 use Rattle.zones.specs.Report.{goodHeader, zonesFrom, zonesOf, goodRun, reportCheck}
 use Rattle.mount.specs.Files.{seqRows, runs, capacityOf, allHealthy, cnvRows}
@@ -24,7 +24,7 @@ use Rattle.completion.specs.Held.{issuable, pendingOf}
 use Rattle.completion.specs.Completions.{succeeded, matchesSequential, withinConventional, recordFits, recoveredRow, recovered, digestOf}
 use Rattle.consistency.specs.Disk.{moved, struck, allows, perform, reported}
 use Rattle.consistency.specs.Story.{freshSize, atMount, stays, afterMishap, afterSuccess, afterFailure}
-use Rattle.consistency.specs.Report.{little, recordThen, recordsThen, reportFrom}
+use Rattle.consistency.specs.Report.{recordThen, recordsThen, reportFrom}
 use Rattle.consistency.specs.World.{zoneHolding, fileZone, mounted, step, run}
 use Rattle.consistency.specs.Cases.{report, superblock, lent, Case}
 use Rattle.consistency.specs.Runs.{disk, mountingUnder, runsOf, Runs}

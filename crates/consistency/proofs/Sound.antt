@@ -10,7 +10,8 @@ use Rattle.types.specs.declared.FileKind.{FileKind}
 use Rattle.types.specs.declared.FileKind.the-variants.{Conventional, Sequential}
 use Rattle.types.specs.declared.Condition.{Condition}
 use Rattle.types.specs.declared.Condition.the-variants.{Healthy, ReadOnly, Offline}
-use Rattle.calls.specs.Checks.{ofKind, isConventional}
+use Rattle.types.specs.Kinds.{ofKind}
+use Rattle.calls.specs.Checks.{isConventional}
 use Rattle.zones.specs.declared.Zone.{Zone}
 use Rattle.zones.specs.Zone.{conventional, sequential, healthy, conditionOf, isHealthy, conventionalCondition, sequentialCondition, pointsWell, goodRecord}
 use Rattle.consistency.specs.Disk.{DiskZone, Mishap, Harm, none, toReadOnly, toOffline, worsened, moved, struck, reported, typeByte, healthyByte, conditionByte}

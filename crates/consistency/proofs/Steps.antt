@@ -21,11 +21,11 @@ use Rattle.types.specs.declared.Answer.{Answer}
 use Rattle.types.specs.declared.Answer.the-variants.{Refused, Done, Issue}
 use Rattle.types.specs.declared.Outstanding.{Outstanding}
 use Rattle.types.specs.declared.Outstanding.the-variants.{Idle, Busy}
+use Rattle.types.specs.Kinds.{ofKind, filesOf}
 use Rattle.types.specs.Mounts.{holding}
 use Rattle.types.proofs.Blocks.{IsBlock}
 use Rattle.table.specs.declared.Slot.the-variants.{Good}
 use Rattle.table.specs.Rows.{rowAt}
-use Rattle.calls.specs.Checks.{ofKind, filesOf}
 use Rattle.calls.specs.Calls.{answerOf, answered, settled, writeRow, truncateRow, flushRow}
 use Rattle.calls.proofs.Laws.{call-passed, reached-sound}
 use Rattle.zones.specs.declared.Zone.{Zone}

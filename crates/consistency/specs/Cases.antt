@@ -11,13 +11,14 @@ use Rattle.types.specs.declared.Call.{Call}
 use Rattle.types.specs.declared.Answer.{Answer}
 use Rattle.types.specs.Numbers.{answerNumber, answerValues, mountNumber, mountValues}
 use Rattle.table.specs.Rows.{wordAt}
-use Rattle.options.specs.Text.{ascii}
+use Rattle.text.specs.Text.{ascii}
+use Rattle.wire.specs.Le.{little}
 use Rattle.zones.specs.declared.Zone.{Zone}
 use Rattle.mount.specs.Mount.{Mounting, mountOutcome}
 use Rattle.calls.specs.Calls.{outcomeOf}
 use Rattle.completion.specs.declared.Digest.{Digest}
 use Rattle.completion.specs.Completions.{completionOf, digestOf, stored}
-use Rattle.consistency.specs.Report.{little, recordThen, reportFrom}
+use Rattle.consistency.specs.Report.{recordThen, reportFrom}
 
 -- ---- what the cases stand on
 

@@ -12,9 +12,9 @@ use Rattle.types.specs.declared.Outcome.{Outcome}
 use Rattle.types.specs.declared.FileKind.{FileKind}
 use Rattle.types.specs.declared.Outstanding.{Outstanding}
 use Rattle.types.specs.declared.Outstanding.the-variants.{Idle, Busy}
+use Rattle.types.specs.Kinds.{ofKind}
 use Rattle.types.specs.Numbers.{answerNumber}
 use Rattle.table.specs.Rows.{rowWidth}
-use Rattle.calls.specs.Checks.{ofKind}
 use Rattle.calls.specs.Calls.{outcomeOf}
 use Rattle.completion.specs.declared.Digest.{Digest}
 use Rattle.completion.specs.Completions.{Completion, digestOf, stored}

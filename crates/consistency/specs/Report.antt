@@ -1,14 +1,10 @@
 -- The bytes of a report, as the paper lays them out.
 use mathlib.Core.List.{List, [], _∷_, _++_, map}
-use Prim.Native.Nat.{ℕ, zero, suc, _/_, _%_}
+use Prim.Native.Nat.{ℕ}
 use lib.ListN.{length}
+use Rattle.wire.specs.Le.{little}
 use Rattle.zones.specs.declared.Zone.{Zone}
 use Rattle.consistency.specs.Disk.{DiskZone, reported}
-
--- a number in so many bytes, "little-endian"
-unfoldable pub little : ℕ → ℕ → List ℕ
-little zero v = []
-little (suc n) v = v % 256 ∷ little n (v / 256)
 
 -- "start u64 at 0, length at 8, write pointer at 16, type byte at 24, condition byte at 25, capacity u64 at 32", 64 bytes in all; then what follows
 unfoldable pub recordThen : Zone → List ℕ → List ℕ

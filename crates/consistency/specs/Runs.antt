@@ -10,7 +10,7 @@ use Rattle.types.specs.declared.FileKind.the-variants.{Conventional, Sequential
 use Rattle.types.specs.declared.Condition.the-variants.{Healthy}
 use Rattle.types.specs.declared.Call.{Call}
 use Rattle.types.specs.Codes.{accessCode}
-use Rattle.options.specs.Text.{ascii}
+use Rattle.text.specs.Text.{ascii}
 use Rattle.mount.specs.Files.{seqRow}
 use Rattle.mount.specs.Mount.{Mounting, mountOutcome}
 use Rattle.consistency.specs.Disk.{DiskZone, none, toReadOnly, Mishap, reported}

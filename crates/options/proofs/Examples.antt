@@ -7,8 +7,8 @@ use lib.ListN.{replicate}
 use Rattle.types.specs.declared.ErrorPolicy.the-variants.{RemountRo, ZoneRo, ZoneOffline, Repair}
 use Rattle.options.specs.declared.Options.{Options}
 use Rattle.options.specs.declared.Options.the-variants.{Policy, Bad}
-use Rattle.options.specs.Text.{ascii}
-use Rattle.options.specs.Options.{comma, split, skipEmpty, same, pieceOf, optionsOf}
+use Rattle.text.specs.Text.{ascii, same}
+use Rattle.options.specs.Options.{comma, split, skipEmpty, pieceOf, optionsOf}
 
 record Example : Type 0 where
   text : List ℕ

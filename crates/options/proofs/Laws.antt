@@ -1,4 +1,4 @@
--- Laws of a text's pieces, and of two texts that are compared byte by byte.
+-- Laws of a text's pieces.
 -- Assumes nothing.
 use Prim.Native.Nat.{ℕ, zero, suc, _+_, _-_, _≤_, _<_}
 use native.Mathlib.Omega.{arith}
@@ -12,35 +12,7 @@ use lib.Seq.{drop-cons, drop-drop}
 use lib.Dec.{eqb}
 use borrow.Author.Tests.{eq-eqb, ne-eqb}
 use Rattle.options.specs.declared.Options.{Options}
-use Rattle.options.specs.Options.{comma, split, skipEmpty, same, afterPiece, afterPieces}
-
--- TWO TEXTS
-
-pub same-length : (a b : List ℕ) → length a ≢ length b → same a b ≡ false
-unfolding same
-same-length [] [] d = absurd (d refl)
-same-length [] (y ∷ ys) d = refl
-same-length (x ∷ xs) [] d = refl
-same-length (x ∷ xs) (y ∷ ys) d = other (eqb x y) (same-length xs ys (λ e. d (ap suc e)))
-  where
-    other : {r : Bool} (t : Bool) → r ≡ false → t && r ≡ false
-    other true h = h
-    other false h = refl
-
--- byte i, where both have one: another byte there, or the same and the bytes after it decide
-pub same-other : (a b : List ℕ) (i : ℕ) → i < length a → i < length b → getD a i 0 ≢ getD b i 0 → same (drop i a) (drop i b) ≡ false
-unfolding same
-same-other a b i h k d = rw (drop-cons a i 0, drop-cons b i 0, ne-eqb (getD a i 0) (getD b i 0) d)
-
-pub same-next : (a b : List ℕ) (i : ℕ) → i < length a → i < length b → getD a i 0 ≡ getD b i 0 → same (drop (i + 1) a) (drop (i + 1) b) ≡ same (drop i a) (drop i b)
-unfolding same
-same-next a b i h k e = rw (add-one, drop-cons a i 0, drop-cons b i 0, eq-eqb (getD a i 0) (getD b i 0) e)
-
-pub same-end : (a b : List ℕ) (i : ℕ) → length a ≤ i → length b ≤ i → same (drop i a) (drop i b) ≡ true
-unfolding same
-same-end a b i h k = rw (drop-of-length-le a, drop-of-length-le b)
-
--- PIECES
+use Rattle.options.specs.Options.{comma, split, skipEmpty, afterPiece, afterPieces}
 
 -- the pieces after one that the rest of a text follows: none where the text ends there, and else those after a comma
 after : List ℕ → List (List ℕ)

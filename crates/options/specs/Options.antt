@@ -2,11 +2,11 @@
 -- `zone-offline` or `repair`; the last wins; default remount-ro".
 use Prim.Native.Nat.{ℕ}
 use Prim.Native.Char.{code}
-use mathlib.Core.Bool.{Bool, true, false, cond, _&&_}
+use mathlib.Core.Bool.{cond}
 use mathlib.Core.List.{List, [], _∷_, foldl}
 use lib.ListN.{length}
 use lib.Dec.{leb, eqb}
-use Rattle.options.specs.Text.{ascii}
+use Rattle.text.specs.Text.{ascii, same}
 use Rattle.types.specs.declared.ErrorPolicy.the-variants.{RemountRo, ZoneRo, ZoneOffline, Repair}
 use Rattle.options.specs.declared.Options.{Options}
 use Rattle.options.specs.declared.Options.the-variants.{Policy, Bad}
@@ -33,13 +33,6 @@ unfoldable pub skipEmpty : List (List ℕ) → List (List ℕ)
 skipEmpty [] = []
 skipEmpty ([] ∷ pieces) = skipEmpty pieces
 skipEmpty ((x ∷ xs) ∷ pieces) = (x ∷ xs) ∷ skipEmpty pieces
-
--- two texts are the same, byte for byte
-unfoldable pub same : List ℕ → List ℕ → Bool
-same [] [] = true
-same [] (y ∷ ys) = false
-same (x ∷ xs) [] = false
-same (x ∷ xs) (y ∷ ys) = eqb x y && same xs ys
 
 -- "each `errors=` with `remount-ro`, `zone-ro`, `zone-offline` or `repair`": what a piece asks for
 unfoldable pub pieceOf : List ℕ → Options

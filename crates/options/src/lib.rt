@@ -3,29 +3,14 @@ ghost use mathlib.Core.Path.{_≡_};
 ghost use mathlib.Core.List.{[], _∷_};
 ghost use Prim.Native.Nat.{ℕ, _≤_, _<_};
 ghost use lib.ListN.{length, getD};
-ghost use Rattle.options.specs.Options.{comma, same, pieceOf, afterPieces, optionsOf};
+ghost use Rattle.options.specs.Options.{comma, pieceOf, afterPieces, optionsOf};
+use text::same_text;
 use types::ErrorPolicy;
 
 // The error policy that a text of options asks for, or that it is no such text.
 pub enum Options {
     Policy(ErrorPolicy),
     Bad,
-}
-
-fn same_text(a: &[u8], b: &[u8]) -> bool
-    ensures { λ r. ⌜ r ≡ same (now (a .entry)) (now (b .entry)) ⌝ }
-{
-    if a.len() != b.len() {
-        return false;
-    }
-    let mut i = 0;
-    while i < a.len() {
-        if a[i] != b[i] {
-            return false;
-        }
-        i += 1;
-    }
-    true
 }
 
 // What a piece that isn't empty asks for.

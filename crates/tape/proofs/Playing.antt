@@ -15,10 +15,11 @@ use Rattle.tape.specs.declared.records.Record.the-variants.{OnFile, Good
 use Rattle.tape.specs.declared.Turned.{Turned}
 use Rattle.tape.specs.Records.{recordAt}
 use Rattle.tape.specs.declared.Played.the-variants.{Written, TooShort}
-use Rattle.tape.specs.Put.{Put, Fills}
+use Rattle.text.specs.Put.{Put, Fills}
 use Rattle.tape.specs.Tape.{State, Rest, Turn, turnOf, turnAt, openTurn, goesFurther, textFrom, textWith, playedInto}
 use Rattle.tape.specs.Told.{restOf, Takes}
-use Rattle.tape.proofs.Stores.{then, nothing, sets-append, sets-out}
+use Rattle.text.proofs.Stores.{then, nothing, sets-append}
+use Rattle.tape.proofs.Stores.{sets-out}
 
 -- ---- the text, record by record
 

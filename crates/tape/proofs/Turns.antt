@@ -8,7 +8,7 @@ use native.Mathlib.Omega.{arith}
 use lib.ListN.{length, take}
 use Rattle.types.specs.declared.Mount.{Mount}
 use Rattle.tape.specs.declared.Turned.{Turned}
-use Rattle.tape.specs.Put.{Put}
+use Rattle.text.specs.Put.{Put}
 use Rattle.tape.specs.Tape.{Turn, turn}
 use Rattle.tape.specs.Told.{Takes, lineRoom, stateOf}
 use Rattle.tape.proofs.Stores.{first-part}

@@ -10,10 +10,10 @@ use Rattle.types.specs.declared.Call.{Call}
 use Rattle.types.specs.declared.MountAnswer.{MountAnswer}
 use Rattle.types.specs.declared.MountAnswer.the-variants.{Refused, Mounted}
 use Rattle.types.specs.declared.Outcome.{Outcome}
+use Rattle.types.specs.Blocks.{mostFiles}
 use Rattle.types.specs.Mounts.{emptyMount}
 use Rattle.table.specs.Rows.{rowWidth}
 use Rattle.mount.specs.Mount.{Mounting, mountOutcome}
-use Rattle.calls.specs.Checks.{mostFiles}
 use Rattle.calls.specs.Calls.{outcomeBy}
 use Rattle.completion.specs.declared.Digest.{Digest}
 use Rattle.completion.specs.Completions.{Completion, good, completionOf, stored, digestOf}
@@ -22,7 +22,7 @@ use Rattle.tape.specs.declared.records.Record.the-variants.{OnFile, Good
 use Rattle.tape.specs.declared.Played.{Played}
 use Rattle.tape.specs.declared.Played.the-variants.{Written, TooShort}
 use Rattle.tape.specs.Records.{recordAt, callBytes, goodBytes, failedBytes, opens, blockOf, superOf, reportOf, optionsOf, runPlace}
-use Rattle.tape.specs.Lines.{goodMark, failedMark, callLine, completionLine, mountLine, brokenLine}
+use Rattle.lines.specs.Lines.{goodMark, failedMark, callLine, completionLine, mountLine, brokenLine}
 
 -- what each record finds: the mount value, and the words of both tables
 pub record State : Type 0 where

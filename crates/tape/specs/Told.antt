@@ -10,7 +10,7 @@ use Rattle.tape.specs.declared.records.Record.{Record}
 use Rattle.tape.specs.declared.records.Record.the-variants.{OnFile, Good, Failed, Broken}
 use Rattle.tape.specs.declared.Turned.{Turned}
 use Rattle.tape.specs.Records.{callBytes, goodBytes, failedBytes, mountPlace, runPlace}
-use Rattle.tape.specs.Put.{Put}
+use Rattle.text.specs.Put.{Put}
 use Rattle.tape.specs.Tape.{State, Rest, Turn}
 
 -- the bytes of a record stand at its place

@@ -1,7 +1,5 @@
 // A tape: its records, and the lines that they print.
-mod lines;
 mod records;
-mod text;
 
 ghost use mathlib.Core.Path.{_≡_};
 ghost use mathlib.Core.Bool.{true};
@@ -11,10 +9,10 @@ ghost use lib.ListN.{length, take, set};
 ghost use lib.Seq.{sets};
 ghost use Rattle.calls.specs.Calls.{outcomeBy};
 ghost use Rattle.tape.specs.Records.{opens};
-ghost use Rattle.tape.specs.Lines.{completionLine};
+ghost use Rattle.lines.specs.Lines.{completionLine};
 ghost use Rattle.tape.specs.Tape.{turn, callTurn, brokenTurn, turnOf, turnAt, goesOn, mounting, openTurn, textFrom, textWith, tapeText, playedInto};
 ghost use Rattle.tape.specs.Told.{Stands, Opened, lineRoom, stateOf, restOf, Takes, Mounts};
-ghost use Rattle.tape.specs.Put.{Put, Fills};
+ghost use Rattle.text.specs.Put.{Put, Fills};
 use records::Record;
 use types::Call;
 use types::Mount;

@@ -1,11 +1,13 @@
--- The law of little-endian numbers, which every width cites.
-use mathlib.Core.Path.{_≡_, ap}
-use mathlib.Core.List.{List}
-use Prim.Native.Nat.{ℕ, zero, suc, _+_, _*_, _^_}
+-- The laws of little-endian numbers, which every width cites.
+use mathlib.Core.Path.{_≡_, refl, _∙_, ap, sym}
+use mathlib.Core.List.{List, _∷_, _++_}
+use Prim.Native.Nat.{ℕ, zero, suc, _+_, _*_, _/_, _%_, _^_, _≤_, _<_}
+use native.Mathlib.Numerals.{add-one}
 use native.Mathlib.Nat.{zero-add, suc-add, add-zero, mul-comm, mul-assoc, pow-suc}
 use native.Mathlib.Omega.{arith}
-use lib.ListN.{getD}
-use Rattle.wire.specs.Le.{le}
+use lib.ListN.{length, getD, take, drop}
+use lib.Seq.{drop-cons}
+use Rattle.wire.specs.Le.{le, little}
 
 -- a number of one byte is that byte
 pub le-one : (b : List ℕ) (at : ℕ) → le 1 b at ≡ getD b at 0
@@ -20,3 +22,39 @@ le-add (suc m) n b at =
     let far : le n b (at + 1 + m) ≡ le n b (at + suc m) = ap (le n b) (omega arith) in
     let high : 256 * (256 ^ m * le n b (at + 1 + m)) ≡ 256 ^ suc m * le n b (at + suc m) = rw (far, pow-suc, mul-comm (256 ^ m) 256, mul-assoc) in
     omega (arith, ap (λ (k : ℕ). le k b at) (suc-add m n), le-add m n b (at + 1))
+
+-- THERE AND BACK
+
+le-cons : (n x : ℕ) (l : List ℕ) (k : ℕ) → le n (x ∷ l) (suc k) ≡ le n l k
+unfolding le
+le-cons zero x l k = refl
+le-cons (suc n) x l k =
+    let e : suc k + 1 ≡ suc (k + 1) = omega arith in
+    ap (λ m. getD l k 0 + 256 * m) (ap (le n (x ∷ l)) e ∙ le-cons n x l (k + 1))
+
+-- a number's bytes, and then others: the number, if they hold it
+pub le-little : (n v : ℕ) (l : List ℕ) → v < 256 ^ n → le n (little n v ++ l) 0 ≡ v
+unfolding le little
+le-little zero v l h = omega (arith, h)
+le-little (suc n) v l h =
+    let p : 256 ^ suc n ≡ 256 ^ n * 256 = pow-suc 256 n in
+    let m : ℕ = 256 ^ n in
+    let low : v / 256 < 256 ^ n = omega (arith, h, p) in
+    let rest : le n (v % 256 ∷ little n (v / 256) ++ l) 1 ≡ v / 256 = le-cons n (v % 256) (little n (v / 256) ++ l) 0 ∙ le-little n (v / 256) l low in
+    ap (λ k. v % 256 + 256 * k) rest ∙ omega arith
+
+-- n bytes from `at` on, back from their number
+pub little-le : (n : ℕ) (b : List ℕ) (at : ℕ) → ((k : ℕ) → getD b k 0 < 256) → at + n ≤ length b → little n (le n b at) ≡ take n (drop at b)
+unfolding little le
+little-le zero b at small h = refl
+little-le (suc n) b at small h =
+    let x = getD b at 0 in
+    let y = le n b (at + 1) in
+    let low : (x + 256 * y) % 256 ≡ x = omega (arith, small at) in
+    let high : (x + 256 * y) / 256 ≡ y = omega (arith, small at) in
+    let inside : at < length b = omega arith in
+    ap (λ (k : ℕ). k ∷ little n ((x + 256 * y) / 256)) low
+    ∙ ap (λ (q : ℕ). x ∷ little n q) high
+    ∙ ap (λ (l : List ℕ). x ∷ l) (little-le n b (at + 1) small (omega arith))
+    ∙ ap (λ (k : ℕ). x ∷ take n (drop k b)) (add-one at)
+    ∙ sym (ap (take (suc n)) (drop-cons b at 0 inside))

@@ -1,7 +1,7 @@
-use Rattle.calls.specs.Names.{foundFile}
+use Rattle.calls.specs.Find.{foundFile}
 use mathlib.Core.Path.{_∙_, sym, ap}
 use borrow.Author.Tests.{not-true, not-false}
-use Rattle.calls.proofs.Naming.{find-unnamed, find-none, find-file}
+use Rattle.calls.proofs.Finding.{find-unnamed, find-none, find-file}
 use borrow.Author.Needs.{needs}
 use Rattle.calls.proofs.find.Statement.{statement}
 use Rattle.calls.proofs.find.Tie as tie

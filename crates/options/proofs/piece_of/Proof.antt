@@ -1,7 +1,7 @@
 use mathlib.Core.Path.{_≡_, sym, _∙_}
 use mathlib.Core.Bool.{false}
-use Rattle.options.specs.Text.{ascii}
-use Rattle.options.specs.Options.{same, pieceOf}
+use Rattle.text.specs.Text.{ascii, same}
+use Rattle.options.specs.Options.{pieceOf}
 use borrow.Author.Needs.{needs}
 use Rattle.options.proofs.piece_of.Statement.{statement}
 use Rattle.options.proofs.piece_of.Tie as tie

@@ -1,5 +1,5 @@
 use mathlib.Core.Path.{refl, ap}
-use Rattle.tape.specs.Lines.{mountLine}
+use Rattle.lines.specs.Lines.{mountLine}
 use Rattle.tape.specs.Tape.{Rest, goesOn}
 use Rattle.tape.proofs.Turns.{takes}
 use native.Mathlib.Omega.{arith}

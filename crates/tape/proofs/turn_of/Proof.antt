@@ -5,7 +5,7 @@ use lib.ListN.{take, drop}
 use Rattle.types.specs.declared.FileKind.the-variants.{Conventional, Sequential}
 use Rattle.completion.specs.declared.Digest.{Digest}
 use Rattle.completion.specs.Completions.{digestOf, completionOf, stored}
-use Rattle.tape.specs.Lines.{goodMark, failedMark, completionLine}
+use Rattle.lines.specs.Lines.{goodMark, failedMark, completionLine}
 use Rattle.tape.proofs.Turns.{takes}
 use native.Mathlib.Omega.{arith}
 use mathlib.Core.Path.{ap}

@@ -1,4 +1,4 @@
-use Rattle.capi.specs.Words.{bytesFrom}
+use Rattle.wire.specs.Le.{little}
 use borrow.Author.Needs.{needs}
 use Rattle.capi.proofs.words.bytes_from.Statement.{statement}
 use Rattle.capi.proofs.words.bytes_from.Tie as tie
@@ -28,7 +28,7 @@ low-byte-requires-8 : tie.Need-low-byte-requires-8
 low-byte-requires-8 c κs = search needs
 
 returns : tie.Need-returns
-unfolding bytesFrom
+unfolding little
 returns c = cc
 
 pub bytes-from-spec : {M : Type 1} → statement M

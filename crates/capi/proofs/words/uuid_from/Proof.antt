@@ -1,4 +1,4 @@
-use Rattle.capi.specs.Words.{bytesFrom}
+use Rattle.wire.specs.Le.{little}
 use borrow.Author.Needs.{needs}
 use Rattle.capi.proofs.words.uuid_from.Statement.{statement}
 use Rattle.capi.proofs.words.uuid_from.Tie as tie
@@ -58,7 +58,7 @@ array-read-t53 : tie.Need-array-read-t53
 array-read-t53 c = search needs
 
 returns : tie.Need-returns
-unfolding bytesFrom
+unfolding little
 returns c = simp (c .before .bytes-from .ensures, c .bytes-from2 .ensures)
 
 pub uuid-from-spec : {M : Type 1} → statement M

@@ -1,0 +1,25 @@
+use native.Mathlib.Omega.{arith}
+use Rattle.text.proofs.Stores.{then}
+use borrow.Author.Needs.{needs}
+use Rattle.lines.proofs.put_command.Statement.{statement}
+use Rattle.lines.proofs.put_command.Tie as tie
+
+letter-of-requires : tie.Need-letter-of-requires
+letter-of-requires c κs = search needs
+
+put-pair-requires : tie.Need-put-pair-requires
+put-pair-requires c κs = search needs
+
+put-two-fields-requires : tie.Need-put-two-fields-requires
+put-two-fields-requires c κs = search needs
+
+same-length : tie.Need-same-length
+same-length c = search needs
+
+returns : tie.Need-returns
+returns c = (then (rw (c .before .before .before .before .before .before .before .letter-of .ensures) at (c .before .before .before .before .before .before .put-pair .ensures)) (c .before .before .put-two-fields .ensures .0), omega (arith, c .before .before .before .before .before .before .put-pair .ensures .place, c .before .before .put-two-fields .ensures .1))
+
+pub put-command-spec : {M : Type 1} → statement M
+put-command-spec =
+    tie.close
+    (tie.spec letter-of-requires put-pair-requires put-two-fields-requires same-length returns)

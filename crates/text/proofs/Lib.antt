@@ -1,0 +1,3 @@
+pub mod Decimal
+pub mod Same
+pub mod Stores
