@@ -1,5 +1,6 @@
 -- The lines that records print: "mark, answer, then .."
 use Prim.Native.Nat.{ℕ}
+use Prim.Native.Char.{code}
 use mathlib.Core.List.{List, [], _∷_, _++_}
 use Rattle.types.specs.declared.Call.{Call}
 use Rattle.types.specs.declared.Call.the-variants as call
@@ -10,7 +11,7 @@ use Rattle.types.specs.declared.Answer.{Answer}
 use Rattle.types.specs.declared.Answer.the-variants.{Refused, Done, Issue}
 use Rattle.types.specs.declared.MountAnswer.{MountAnswer}
 use Rattle.types.specs.Numbers.{answerNumber, answerValues, mountNumber, mountValues, refusalNumber, refusalValues}
-use Rattle.text.specs.Text.{field, fields}
+use Rattle.text.specs.Text.{ascii, field, fields}
 use Rattle.lines.specs.declared.Value.{Value}
 use Rattle.lines.specs.declared.Value.the-variants.{Of, Nothing}
 
@@ -18,42 +19,42 @@ use Rattle.lines.specs.declared.Value.the-variants.{Of, Nothing}
 
 -- "`RD WR TR FL`"
 abbrev pub markOf : Call → List ℕ
-markOf (call.Read offset length) = 82 ∷ 68 ∷ []
-markOf (call.Write offset length) = 87 ∷ 82 ∷ []
-markOf (call.Truncate size) = 84 ∷ 82 ∷ []
-markOf call.Flush = 70 ∷ 76 ∷ []
+markOf (call.Read offset length) = ascii "RD"
+markOf (call.Write offset length) = ascii "WR"
+markOf (call.Truncate size) = ascii "TR"
+markOf call.Flush = ascii "FL"
 
 -- "`OK`"
 abbrev pub goodMark : List ℕ
-goodMark = 79 ∷ 75 ∷ []
+goodMark = ascii "OK"
 
 -- "`NO`"
 abbrev pub failedMark : List ℕ
-failedMark = 78 ∷ 79 ∷ []
+failedMark = ascii "NO"
 
 -- "`MO`"
 abbrev pub mountMark : List ℕ
-mountMark = 77 ∷ 79 ∷ []
+mountMark = ascii "MO"
 
 -- "`??`"
 abbrev pub brokenMark : List ℕ
-brokenMark = 63 ∷ 63 ∷ []
+brokenMark = ascii "??"
 
 -- ---- what stands after them
 
 -- "its letter (R W Z reset F finish S flush)"
 abbrev pub letterOf : CommandKind → ℕ
-letterOf command.Read = 82
-letterOf command.Write = 87
-letterOf command.Reset = 90
-letterOf command.Finish = 70
-letterOf command.Flush = 83
+letterOf command.Read = code "R"
+letterOf command.Write = code "W"
+letterOf command.Reset = code "Z"
+letterOf command.Finish = code "F"
+letterOf command.Flush = code "S"
 
 -- "answer, then .. for a command its letter .., address and length, for an answer at once `D` and count"
 abbrev pub callFields : Answer → List ℕ
 callFields (Refused r) = fields (refusalNumber r ∷ refusalValues r)
-callFields (Done count) = field 0 ++ (32 ∷ 68 ∷ field count)
-callFields (Issue c) = field 0 ++ (32 ∷ letterOf (c .kind) ∷ fields (c .address ∷ c .length ∷ []))
+callFields (Done count) = field 0 ++ (ascii " D" ++ field count)
+callFields (Issue c) = field 0 ++ (code " " ∷ letterOf (c .kind) ∷ fields (c .address ∷ c .length ∷ []))
 
 -- "answer, then .. for OK 0 the count, for NO 7 the new size"
 abbrev pub completionFields : Answer → List ℕ

@@ -1,9 +1,9 @@
 -- Names: "Names are `cnv/` or `seq/` and a decimal without a leading zero: `seq/07` and `seq/1 ` match nothing."
 use Prim.Native.Nat.{ℕ, zero, suc, _<_}
 use mathlib.Core.Path.{_≡_}
-use mathlib.Core.List.{List, [], _∷_, _++_}
+use mathlib.Core.List.{List, _++_}
 use mathlib.Core.Bool.{cond}
-use Rattle.text.specs.Text.{same, decimal}
+use Rattle.text.specs.Text.{ascii, same, decimal}
 use Rattle.types.specs.declared.Volume.{Volume}
 use Rattle.types.specs.declared.FileKind.{FileKind}
 use Rattle.types.specs.declared.FileKind.the-variants.{Conventional, Sequential}
@@ -15,10 +15,10 @@ use Rattle.names.specs.declared.KindRead.the-variants as kindRead
 use Rattle.names.specs.declared.NumberRead.{NumberRead}
 use Rattle.names.specs.declared.NumberRead.the-variants as numberRead
 
--- the bytes `cnv/` and `seq/`
+-- "`cnv/` or `seq/`"
 abbrev pub prefixOf : FileKind → List ℕ
-prefixOf Conventional = 99 ∷ 110 ∷ 118 ∷ 47 ∷ []
-prefixOf Sequential = 115 ∷ 101 ∷ 113 ∷ 47 ∷ []
+prefixOf Conventional = ascii "cnv/"
+prefixOf Sequential = ascii "seq/"
 
 -- the name of file n of a kind
 unfoldable pub nameOf : FileKind → ℕ → List ℕ

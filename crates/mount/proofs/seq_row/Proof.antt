@@ -22,16 +22,20 @@ offline-row-requires c κs = search needs
 
 returns : tie.Need-returns
 returns c =
-    rw (
+    simp (
       c .healthy-row .ensures,
       c .before .before .before .before .bytes-of .ensures,
       c .before .written-size .ensures,
-      ← c .before .before .before .is-healthy .ensures,
-      c .before .before .if1 .taken,
+      sym (c .before .before .before .is-healthy .ensures) ∙ c .before .before .if1 .taken,
     )
 
 returns-2 : tie.Need-returns-2
-returns-2 c = rw (c .offline-row .ensures, c .before .before .before .bytes-of .ensures, ← c .before .before .is-healthy .ensures, c .before .if1 .left)
+returns-2 c =
+    simp (
+      c .offline-row .ensures,
+      c .before .before .before .bytes-of .ensures,
+      sym (c .before .before .is-healthy .ensures) ∙ c .before .if1 .left,
+    )
 
 pub seq-row-spec : {M : Type 1} → statement M
 seq-row-spec =
