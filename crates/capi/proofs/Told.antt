@@ -22,10 +22,10 @@ use Rattle.completion.specs.declared.held.Pending.{Pending}
 use Rattle.completion.specs.declared.held.Pending.the-variants as pending
 use Rattle.completion.specs.Held.{pendingOf}
 use Rattle.completion.specs.Completions.{Completion, good, failed, malformed, nothingLost, recordFits, markedBy, failing, recovering, succeeded, recovered, refusing, digested, digestPending, digestOf}
-use Rattle.capi.specs.Words.{mountWords}
-use Rattle.capi.specs.Answers.{answerLength}
+use Rattle.words.specs.Words.{mountWords}
+use Rattle.words.specs.Answers.{answerLength}
+use Rattle.words.proofs.Laws.{Valued, possible-back, mount-back, state-put}
 use Rattle.capi.specs.Interface.{usable, callWords, completionWords}
-use Rattle.capi.proofs.Laws.{Valued, possible-back, mount-back, state-put}
 
 -- A CALL KEEPS WHAT THE MOUNT FIXES, and so does a completion
 

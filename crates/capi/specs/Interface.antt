@@ -21,8 +21,8 @@ use Rattle.calls.specs.Calls.{isKind, noKind, outcomeBy}
 use Rattle.completion.specs.declared.Store.{Store}
 use Rattle.completion.specs.declared.Store.the-variants as store
 use Rattle.completion.specs.Completions.{Completion, digestOf}
-use Rattle.capi.specs.Answers.{answerLength, answerWords}
-use Rattle.capi.specs.Words.{mountLength, mountWords, written, withState, possible, mountFrom}
+use Rattle.words.specs.Answers.{answerLength, answerWords}
+use Rattle.words.specs.Words.{mountLength, mountWords, written, withState, possible, mountFrom}
 
 -- ---- what a function that is lent a mount's words and an answer's gives: the number that it returns, and both after it
 

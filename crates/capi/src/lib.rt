@@ -1,8 +1,5 @@
 // The library for C: each function takes numbers and lent slices. A mount value lives in words that the caller keeps, and an answer is a
 // number, with its values in words that the caller lends. Any words whatever are taken: those that hold no mount value answer 10.
-pub mod answers; // an answer's values in words
-pub mod words; // a mount value in words
-
 ghost use mathlib.Core.Path.{_≡_};
 ghost use mathlib.Core.Bool.{true, not};
 ghost use Prim.Native.Nat.{_≤_};
@@ -11,8 +8,8 @@ ghost use lib.ListN.{length};
 ghost use Rattle.types.specs.declared.Call.{Call};
 ghost use Rattle.types.specs.declared.FileKind.the-variants as files;
 ghost use Rattle.completion.specs.Completions.{Completion, completionOf, completionBy, stored};
-ghost use Rattle.capi.specs.Words.{mountLength};
-ghost use Rattle.capi.specs.Answers.{answerLength};
+ghost use Rattle.words.specs.Words.{mountLength};
+ghost use Rattle.words.specs.Answers.{answerLength};
 ghost use Rattle.capi.specs.Interface.{Given, told, usable, callWords, completionWords, completionStore, toldFound, findWords, toldShown, showAnswer, showWords, roomy, toldMounted, mountGiven, mountCnv, mountSeq};
 ghost use Rattle.crc32.specs.Crc.{crc32};
 use types::Call;
@@ -30,7 +27,7 @@ fn is_usable(w: &[u64], room: usize) -> bool
     ensures { λ r. ⌜ r ≡ usable (now (w .entry)) room ⌝ }
     ensures { λ r. ⌜ (r ≡ true → (mountLength ≤ length (now (w .entry))) × (answerLength ≤ room)) ⌝ }
 {
-    words::is_possible(w) & (answers::ANSWER_WORDS <= room)
+    words::is_possible(w) & (words::answers::ANSWER_WORDS <= room)
 }
 
 // Puts an outcome into the words, and gives its number.
@@ -43,7 +40,7 @@ fn tell(w: &mut [u64], a: &mut [u64], o: Outcome) -> u64
     let m = o.mount;
     let x = o.answer;
     words::put_state(w, m);
-    answers::put_values(a, answers::answer_values(x));
+    words::answers::put_values(a, words::answers::answer_values(x));
     types::answer_number(x)
 }
 
@@ -205,7 +202,7 @@ fn is_roomy(w: usize, a: usize) -> bool
     ensures { λ r. ⌜ r ≡ roomy w a ⌝ }
     ensures { λ r. ⌜ (r ≡ true → (mountLength ≤ w) × (answerLength ≤ a)) ⌝ }
 {
-    (words::MOUNT_WORDS <= w) & (answers::ANSWER_WORDS <= a)
+    (words::MOUNT_WORDS <= w) & (words::answers::ANSWER_WORDS <= a)
 }
 
 fn tell_mounted(w: &mut [u64], a: &mut [u64], o: MountOutcome) -> u64
@@ -217,7 +214,7 @@ fn tell_mounted(w: &mut [u64], a: &mut [u64], o: MountOutcome) -> u64
     let m = o.mount;
     let x = o.answer;
     words::put_mount(w, m);
-    answers::put_values(a, answers::mount_values(x));
+    words::answers::put_values(a, words::answers::mount_values(x));
     types::mount_number(x)
 }
 
@@ -254,7 +251,7 @@ fn tell_found(a: &mut [u64], x: FindAnswer) -> u64
     ensures { λ r. ⌜ r ≡ toldFound (now (a .entry)) x .number ⌝ }
     ensures { λ _. ⌜ now (a .exit) ≡ toldFound (now (a .entry)) x .answer ⌝ }
 {
-    answers::put_values(a, answers::find_values(x));
+    words::answers::put_values(a, words::answers::find_values(x));
     types::find_number(x)
 }
 
@@ -293,7 +290,7 @@ fn tell_shown(a: &mut [u64], x: ShowAnswer) -> u64
     ensures { λ r. ⌜ r ≡ toldShown (now (a .entry)) x .number ⌝ }
     ensures { λ _. ⌜ now (a .exit) ≡ toldShown (now (a .entry)) x .answer ⌝ }
 {
-    answers::put_values(a, answers::show_values(x));
+    words::answers::put_values(a, words::answers::show_values(x));
     types::show_number(x)
 }
 

@@ -1,4 +1,4 @@
-use Rattle.capi.specs.Answers.{answerWords}
+use Rattle.words.specs.Answers.{answerWords}
 use borrow.Author.Needs.{needs}
 use Rattle.capi.proofs.tell.Statement.{statement}
 use Rattle.capi.proofs.tell.Tie as tie

@@ -1,0 +1,143 @@
+// Answers in words: how many values, and six words with the values in front and zeros after them.
+ghost use mathlib.Core.Path.{_≡_};
+ghost use mathlib.Core.List.{[], _∷_};
+ghost use Prim.Native.Nat.{_≤_};
+ghost use lib.ListN.{length};
+ghost use Rattle.types.specs.Numbers.{refusalValues, answerValues, mountValues, findValues, showValues};
+ghost use Rattle.words.specs.Words.{written};
+ghost use Rattle.words.specs.Answers.{answerLength, valuesOf, valueWords};
+use types::Answer;
+use types::FindAnswer;
+use types::MountAnswer;
+use types::Refusal;
+use types::ShowAnswer;
+
+// The words of an answer.
+pub const ANSWER_WORDS: usize = 7;
+
+// What goes into the words of an answer.
+pub struct Values {
+    pub count: u64,
+    pub first: u64,
+    pub second: u64,
+    pub third: u64,
+    pub fourth: u64,
+    pub fifth: u64,
+    pub sixth: u64,
+}
+
+fn up_to_three(count: u64, first: u64, second: u64, third: u64) -> Values
+    ensures { λ r. ⌜ r ≡ record { count = count; first = first; second = second; third = third; fourth = 0; fifth = 0; sixth = 0 } ⌝ }
+{
+    Values {
+        count,
+        first,
+        second,
+        third,
+        fourth: 0,
+        fifth: 0,
+        sixth: 0,
+    }
+}
+
+fn refusal_values(x: Refusal) -> Values
+    ensures { λ r. ⌜ r ≡ valuesOf (refusalValues x) ⌝ }
+{
+    let none = up_to_three(0, 0, 0, 0);
+    match x {
+        Refusal::Failed(size) => up_to_three(1, size, 0, 0),
+        Refusal::BadZone(zone) => up_to_three(1, zone as u64, 0, 0),
+        Refusal::NoFile => none,
+        Refusal::Busy => none,
+        Refusal::ReadOnlyMount => none,
+        Refusal::Denied => none,
+        Refusal::BeyondCapacity => none,
+        Refusal::Misplaced => none,
+        Refusal::NothingOutstanding => none,
+        Refusal::BadRecord => none,
+        Refusal::Impossible => none,
+        Refusal::BadBlock => none,
+        Refusal::SuperLength => none,
+        Refusal::SuperMagic => none,
+        Refusal::SuperChecksum => none,
+        Refusal::SuperFeatures => none,
+        Refusal::SuperOwner => none,
+        Refusal::SuperTail => none,
+        Refusal::BadOptions => none,
+        Refusal::BadReport => none,
+        Refusal::TooFewRows => none,
+    }
+}
+
+pub fn answer_values(a: Answer) -> Values
+    ensures { λ r. ⌜ r ≡ valuesOf (answerValues a) ⌝ }
+{
+    match a {
+        Answer::Refused(x) => refusal_values(x),
+        Answer::Done(count) => up_to_three(1, count, 0, 0),
+        Answer::Issue(command) => {
+            let kind = command.kind;
+            up_to_three(
+                3,
+                types::command_code(kind),
+                command.address,
+                command.length,
+            )
+        }
+    }
+}
+
+pub fn mount_values(a: MountAnswer) -> Values
+    ensures { λ r. ⌜ r ≡ valuesOf (mountValues a) ⌝ }
+{
+    match a {
+        MountAnswer::Refused(x) => refusal_values(x),
+        MountAnswer::Mounted(cnv, seq) => up_to_three(2, cnv as u64, seq as u64, 0),
+    }
+}
+
+pub fn find_values(a: FindAnswer) -> Values
+    ensures { λ r. ⌜ r ≡ valuesOf (findValues a) ⌝ }
+{
+    match a {
+        FindAnswer::Refused(x) => refusal_values(x),
+        FindAnswer::Found(kind, number) => {
+            up_to_three(2, types::kind_code(kind), number as u64, 0)
+        }
+    }
+}
+
+pub fn show_values(a: ShowAnswer) -> Values
+    ensures { λ r. ⌜ r ≡ valuesOf (showValues a) ⌝ }
+{
+    match a {
+        ShowAnswer::Refused(x) => refusal_values(x),
+        ShowAnswer::Shown(row, mode) => {
+            let condition = row.condition;
+            let access = row.access;
+            Values {
+                count: 6,
+                first: row.start,
+                second: row.capacity,
+                third: row.size,
+                fourth: types::condition_code(condition),
+                fifth: types::access_code(access),
+                sixth: mode as u64,
+            }
+        }
+    }
+}
+
+// Puts an answer's values into its words.
+pub fn put_values(out: &mut [u64], v: Values)
+    requires { ⌜ answerLength ≤ length (now out) ⌝ }
+    ensures { λ _. ⌜ now (out .exit) ≡ written (now (out .entry)) (valueWords v) ⌝ }
+{
+    out[0] = v.count;
+    out[1] = v.first;
+    out[2] = v.second;
+    out[3] = v.third;
+    out[4] = v.fourth;
+    out[5] = v.fifth;
+    out[6] = v.sixth;
+}
