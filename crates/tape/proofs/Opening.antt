@@ -1,24 +1,14 @@
--- The first four records: where they end, and what is mounted from them.
+-- The first four records: what is mounted from them.
 -- Assumes nothing.
-use mathlib.Core.Path.{_≡_, refl}
+use mathlib.Core.Path.{_≡_}
 use mathlib.Core.List.{List}
-use mathlib.Core.Bool.{Bool, true, false, cond}
-use Prim.Native.Nat.{ℕ, _+_, _-_, _*_, _≤_}
+use Prim.Native.Nat.{ℕ, _+_, _-_}
 use native.Mathlib.Omega.{arith}
 use lib.ListN.{take, drop}
-use lib.Dec.{leb}
 use Rattle.wire.specs.Le.{le}
 use Rattle.mount.specs.Mount.{mountOutcome}
-use Rattle.tape.specs.Records.{reportLength, zoneCount, mountPlace, optionsLength, runPlace}
+use Rattle.records.specs.Records.{reportLength, zoneCount, mountPlace, optionsLength, runPlace}
 use Rattle.tape.specs.Tape.{mounting}
-
--- a report has its header at least
-pub header : (n : ℕ) → 16 ≤ reportLength n
-header n = by (leb n 1023)
-  where
-    by : (t : Bool) → 16 ≤ cond t (16 + 64 * n) 16
-    by true = omega arith
-    by false = omega arith
 
 -- the parts of the tape that the code lends to a mount are those of the definition
 pub lent : (b cnv seq : List ℕ) (block at end : ℕ)

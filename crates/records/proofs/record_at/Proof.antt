@@ -1,8 +1,8 @@
 use mathlib.Core.Path.{sym, _∙_}
-use Rattle.tape.specs.Records.{recordAt}
+use Rattle.records.specs.Records.{recordAt}
 use borrow.Author.Needs.{needs}
-use Rattle.tape.proofs.records.record_at.Statement.{statement}
-use Rattle.tape.proofs.records.record_at.Tie as tie
+use Rattle.records.proofs.record_at.Statement.{statement}
+use Rattle.records.proofs.record_at.Tie as tie
 
 stands-requires : tie.Need-stands-requires
 stands-requires c κs = search needs

@@ -7,8 +7,8 @@ use lib.Dec.{leb, eqb}
 use Rattle.wire.specs.Le.{le}
 use Rattle.types.specs.declared.Call.{Call}
 use Rattle.types.specs.declared.Call.the-variants as call
-use Rattle.tape.specs.declared.records.Record.{Record}
-use Rattle.tape.specs.declared.records.Record.the-variants.{OnFile, Good, Failed, Broken}
+use Rattle.records.specs.declared.Record.{Record}
+use Rattle.records.specs.declared.Record.the-variants.{OnFile, Good, Failed, Broken}
 
 -- n bytes stand at a place
 abbrev pub holds : ℕ → List ℕ → ℕ → Bool
