@@ -10,10 +10,10 @@ use lib.ListN.{length, length-append}
 use lib.Seq.{sets, length-sets}
 use borrow.Author.Tests.{ltb-true, leb-true, leb-false, le-leb, lt-leb}
 use Rattle.types.proofs.Tests.{and-left, and-right, cases}
-use Rattle.tape.specs.declared.records.Record.{Record}
-use Rattle.tape.specs.declared.records.Record.the-variants.{OnFile, Good, Failed, Broken}
+use Rattle.records.specs.declared.Record.{Record}
+use Rattle.records.specs.declared.Record.the-variants.{OnFile, Good, Failed, Broken}
 use Rattle.tape.specs.declared.Turned.{Turned}
-use Rattle.tape.specs.Records.{recordAt}
+use Rattle.records.specs.Records.{recordAt}
 use Rattle.tape.specs.declared.Played.the-variants.{Written, TooShort}
 use Rattle.text.specs.Put.{Put, Fills}
 use Rattle.tape.specs.Tape.{State, Rest, Turn, turnOf, turnAt, openTurn, goesFurther, textFrom, textWith, playedInto}

@@ -1,15 +1,20 @@
 -- A turn that was taken, from what its line and the rest are, and into other bytes.
 -- Assumes nothing.
-use mathlib.Core.Path.{_≡_, subst, ap}
+use mathlib.Core.Path.{_≡_, subst, ap, _∙_}
 use mathlib.Core.List.{List}
-use mathlib.Core.Bool.{Bool}
+use mathlib.Core.Bool.{Bool, true}
 use Prim.Native.Nat.{ℕ, _+_, _≤_}
 use native.Mathlib.Omega.{arith}
 use lib.ListN.{length, take}
+use Rattle.types.specs.declared.FileKind.the-variants.{Conventional, Sequential}
 use Rattle.types.specs.declared.Mount.{Mount}
+use Rattle.types.specs.declared.Outcome.{Outcome}
+use Rattle.completion.specs.declared.Digest.{Digest}
+use Rattle.completion.specs.Completions.{stored}
+use Rattle.lines.specs.Lines.{completionLine}
 use Rattle.tape.specs.declared.Turned.{Turned}
 use Rattle.text.specs.Put.{Put}
-use Rattle.tape.specs.Tape.{Turn, turn}
+use Rattle.tape.specs.Tape.{State, Turn, turn, completionTurn}
 use Rattle.tape.specs.Told.{Takes, lineRoom, stateOf}
 use Rattle.tape.proofs.Stores.{first-part}
 
@@ -23,6 +28,15 @@ takes {before} {after} {to = to} {r = r} p e more next mount cnvs seqs room = re
   rest = cc;
   room = room;
 }
+
+-- of a completion: the line of its outcome was put, and both tables are as it left them
+pub digested : {before after cnv seq : List ℕ} {to next : ℕ} {r : Turned} {o : Outcome} (mark : List ℕ) (s : State) (d : Digest)
+    → Put before after to (r .to) (completionLine mark (o .answer))
+    → (r .more ≡ true) × (r .next ≡ next) × (r .mount ≡ o .mount) × (r .to ≤ to + lineRoom)
+    → (o ≡ d .outcome) × ((cnv ≡ stored Conventional (d .store) (s .cnv)) × (seq ≡ stored Sequential (d .store) (s .seq)))
+    → Takes (completionTurn mark next s d) before after to r cnv seq
+digested mark s d p t l =
+    takes p (ap (λ (x : Outcome). completionLine mark (x .answer)) (l .0)) (t .0) (t .1) (t .2 ∙ ap (λ (x : Outcome). x .mount) (l .0)) (l .1 .0) (l .1 .1) (t .3)
 
 -- its line was put at the start of some bytes, and copied from there
 pub copied-turn : {t : Turn} {before after out out' cnv seq : List ℕ} {to end : ℕ} {r : Turned}

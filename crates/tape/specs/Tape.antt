@@ -17,11 +17,11 @@ use Rattle.mount.specs.Mount.{Mounting, mountOutcome}
 use Rattle.calls.specs.Calls.{outcomeBy}
 use Rattle.completion.specs.declared.Digest.{Digest}
 use Rattle.completion.specs.Completions.{Completion, good, completionOf, stored, digestOf}
-use Rattle.tape.specs.declared.records.Record.{Record}
-use Rattle.tape.specs.declared.records.Record.the-variants.{OnFile, Good, Failed, Broken}
+use Rattle.records.specs.declared.Record.{Record}
+use Rattle.records.specs.declared.Record.the-variants.{OnFile, Good, Failed, Broken}
 use Rattle.tape.specs.declared.Played.{Played}
 use Rattle.tape.specs.declared.Played.the-variants.{Written, TooShort}
-use Rattle.tape.specs.Records.{recordAt, callBytes, goodBytes, failedBytes, opens, blockOf, superOf, reportOf, optionsOf, runPlace}
+use Rattle.records.specs.Records.{recordAt, callBytes, goodBytes, failedBytes, opens, blockOf, superOf, reportOf, optionsOf, runPlace}
 use Rattle.lines.specs.Lines.{goodMark, failedMark, callLine, completionLine, mountLine, brokenLine}
 
 -- what each record finds: the mount value, and the words of both tables

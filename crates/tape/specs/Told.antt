@@ -2,28 +2,12 @@
 use Prim.Native.Nat.{ℕ, _+_, _≤_}
 use mathlib.Core.List.{List}
 use mathlib.Core.Path.{_≡_}
-use lib.ListN.{length}
 use Rattle.types.specs.declared.Mount.{Mount}
 use Rattle.types.specs.declared.MountOutcome.{MountOutcome}
 use Rattle.mount.specs.Mount.{Mounting}
-use Rattle.tape.specs.declared.records.Record.{Record}
-use Rattle.tape.specs.declared.records.Record.the-variants.{OnFile, Good, Failed, Broken}
 use Rattle.tape.specs.declared.Turned.{Turned}
-use Rattle.tape.specs.Records.{callBytes, goodBytes, failedBytes, mountPlace, runPlace}
 use Rattle.text.specs.Put.{Put}
 use Rattle.tape.specs.Tape.{State, Rest, Turn}
-
--- the bytes of a record stand at its place
-abbrev pub Stands : Record → List ℕ → ℕ → Type 0
-Stands (OnFile kind number x) b at = at + callBytes ≤ length b
-Stands Good b at = at + goodBytes ≤ length b
-Stands Failed b at = at + failedBytes ≤ length b
-Stands Broken b at = Unit
-
--- the first four records stand at the start
-pub record Opened (b : List ℕ) : Type 0 where
-  pub report : 4120 ≤ mountPlace b
-  pub whole : runPlace b ≤ length b
 
 -- no line is longer
 abbrev pub lineRoom : ℕ

@@ -1,6 +1,4 @@
-// A tape: its records, and the lines that they print.
-mod records;
-
+// A tape: what each of its records does, and the lines that it prints.
 ghost use mathlib.Core.Path.{_≡_};
 ghost use mathlib.Core.Bool.{true};
 ghost use mathlib.Core.List.{List, [], _∷_};
@@ -8,10 +6,10 @@ ghost use Prim.Native.Nat.{ℕ, _+_, _^_, _≤_, _<_};
 ghost use lib.ListN.{length, take, set};
 ghost use lib.Seq.{sets};
 ghost use Rattle.calls.specs.Calls.{outcomeBy};
-ghost use Rattle.tape.specs.Records.{opens};
+ghost use Rattle.records.specs.Told.{Stands, Opened};
 ghost use Rattle.lines.specs.Lines.{completionLine};
 ghost use Rattle.tape.specs.Tape.{turn, callTurn, brokenTurn, turnOf, turnAt, goesOn, mounting, openTurn, textFrom, textWith, tapeText, playedInto};
-ghost use Rattle.tape.specs.Told.{Stands, Opened, lineRoom, stateOf, restOf, Takes, Mounts};
+ghost use Rattle.tape.specs.Told.{lineRoom, stateOf, restOf, Takes, Mounts};
 ghost use Rattle.text.specs.Put.{Put, Fills};
 use records::Record;
 use types::Call;

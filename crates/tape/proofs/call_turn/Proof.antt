@@ -1,4 +1,4 @@
-use mathlib.Core.Path.{ap}
+use mathlib.Core.Path.{refl}
 use borrow.Author.Needs.{needs}
 use Rattle.tape.proofs.call_turn.Statement.{statement}
 use Rattle.tape.proofs.call_turn.Tie as tie
@@ -13,7 +13,11 @@ same-length : tie.Need-same-length
 same-length c = search needs
 
 returns : tie.Need-returns
-returns c = record { line = rw (← c .before .before .before .before .before .call-by .ensures) (c .before .before .put-call-line .ensures .0); rest = cc (c .before .before .before .before .before .call-by .ensures); room = c .before .before .put-call-line .ensures .1 }
+returns c = rw (← c .before .before .before .before .before .call-by .ensures) (record {
+  line = c .before .before .put-call-line .ensures .0;
+  rest = refl;
+  room = c .before .before .put-call-line .ensures .1;
+})
 
 pub call-turn-spec : {M : Type 1} → statement M
 call-turn-spec = tie.close (tie.spec call-by-requires put-call-line-requires same-length returns)

@@ -1,5 +1,3 @@
-use mathlib.Core.Path.{_≡_, ap, _∙_}
-use Rattle.mount.specs.Mount.{Mounting}
 use Rattle.tape.proofs.Opening.{lent}
 use borrow.Author.Needs.{needs}
 use Rattle.tape.proofs.mount_from.Statement.{statement}
@@ -57,13 +55,12 @@ same-length-2 : tie.Need-same-length-2
 same-length-2 c = search needs
 
 returns : tie.Need-returns
-returns c = let e = lent (c .before .before .before .before .before .before .before .before .before .before .before .before .before .before .before .before .args .b .now) (c .before .before .before .before .before .before .before .before .before .before .before .before .before .before .before .before .args .cnv .now) (c .before .before .before .before .before .before .before .before .before .before .before .before .before .before .before .before .args .seq .now) _ _ _ (c .before .before .before .before .before .before .before .before .before .before .before .before .u16-at .ensures) (c .before .before .before .before .before .before .before .before .before .before .before .mount-place .ensures .0) (c .before .before .before .before .before .before .before .before .before .before .run-place .ensures) in
-    record {
-      answer = c .before .before .before .before .mount .ensures .0 ∙ ap (λ (o : Mounting). o .answer) e;
-      mount = c .before .before .before .before .mount .ensures .1 .0 ∙ ap (λ (o : Mounting). o .mount) e;
-      cnvs = c .before .before .before .before .mount .ensures .1 .1 .0 ∙ ap (λ (o : Mounting). o .cnv) e;
-      seqs = c .before .before .before .before .mount .ensures .1 .1 .1 ∙ ap (λ (o : Mounting). o .seq) e;
-    }
+returns c = lent (c .before .before .before .before .before .before .before .before .before .before .before .before .before .before .before .before .args .b .now) (c .before .before .before .before .before .before .before .before .before .before .before .before .before .before .before .before .args .cnv .now) (c .before .before .before .before .before .before .before .before .before .before .before .before .before .before .before .before .args .seq .now) _ _ _ (c .before .before .before .before .before .before .before .before .before .before .before .before .u16-at .ensures) (c .before .before .before .before .before .before .before .before .before .before .before .mount-place .ensures .0) (c .before .before .before .before .before .before .before .before .before .before .run-place .ensures) (record {
+  answer = c .before .before .before .before .mount .ensures .0;
+  mount = c .before .before .before .before .mount .ensures .1 .0;
+  cnvs = c .before .before .before .before .mount .ensures .1 .1 .0;
+  seqs = c .before .before .before .before .mount .ensures .1 .1 .1;
+})
 
 pub mount-from-spec : {M : Type 1} → statement M
 mount-from-spec =

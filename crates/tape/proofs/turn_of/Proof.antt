@@ -1,15 +1,11 @@
-use mathlib.Core.Path.{_≡_, _∙_}
-use mathlib.Core.Bool.{true}
-use Prim.Native.Nat.{ℕ, _+_, _-_}
-use lib.ListN.{take, drop}
-use Rattle.types.specs.declared.FileKind.the-variants.{Conventional, Sequential}
-use Rattle.completion.specs.declared.Digest.{Digest}
-use Rattle.completion.specs.Completions.{digestOf, completionOf, stored}
-use Rattle.lines.specs.Lines.{goodMark, failedMark, completionLine}
-use Rattle.tape.proofs.Turns.{takes}
+use mathlib.Core.Path.{_≡_}
+use Prim.Native.Nat.{_+_, _-_}
 use native.Mathlib.Omega.{arith}
-use mathlib.Core.Path.{ap}
-use Rattle.types.specs.declared.Outcome.{Outcome}
+use Rattle.completion.specs.Completions.{good}
+use Rattle.lines.specs.Lines.{goodMark, failedMark}
+use Rattle.tape.specs.Tape.{digest, failureAt}
+use Rattle.tape.specs.Told.{stateOf}
+use Rattle.tape.proofs.Turns.{digested}
 use borrow.Author.Needs.{needs}
 use Rattle.tape.proofs.turn_of.Statement.{statement}
 use Rattle.tape.proofs.turn_of.Tie as tie
@@ -87,10 +83,10 @@ same-length-6 : tie.Need-same-length-6
 same-length-6 c = search needs
 
 returns-2 : tie.Need-returns-2
-returns-2 c = let o = c .before .before .before .before .before .before .before .before .complete .ensures in
-    let t = c .before .before .completion-turn .ensures in
+returns-2 c = let a = c .before .before .before .before .before .before .before .before .before .before .before .before .before .before .before .before .before .args in
+    let s = stateOf (a .m) (a .cnv .now) (a .seq .now) in
     rw (c .before .before .before .before .before .before .before .before .before .before .before .enum-told .given .1)
-    (takes (t .0) (ap (λ (x : Outcome). completionLine goodMark (x .answer)) (o .0)) (t .1 .0) (t .1 .1) (t .1 .2 ∙ ap (λ (x : Outcome). x .mount) (o .0)) (o .1 .0) (o .1 .1) (t .1 .3))
+    (digested goodMark s (digest s good) (c .before .before .completion-turn .ensures .0) (c .before .before .completion-turn .ensures .1) (c .before .before .before .before .before .before .before .before .complete .ensures))
 
 same-length-7 : tie.Need-same-length-7
 same-length-7 c = search needs
@@ -102,22 +98,11 @@ same-length-9 : tie.Need-same-length-9
 same-length-9 c = search needs
 
 returns-3 : tie.Need-returns-3
-returns-3 c = let o = c .before .before .before .before .before .before .before .before .fail .ensures in
-    let t = c .before .before .completion-turn2 .ensures in
-    let a = c .before .before .before .before .before .before .before .before .before .before .before .before .before .before .before .before .before .before .args in
+returns-3 c = let a = c .before .before .before .before .before .before .before .before .before .before .before .before .before .before .before .before .before .before .args in
+    let s = stateOf (a .m) (a .cnv .now) (a .seq .now) in
     let size : a .at + 66 - (a .at + 2) ≡ 64 = omega arith in
-    let d = ap (λ (n : ℕ). digestOf (a .m) (a .cnv .now) (a .seq .now) (completionOf true (take n (drop (a .at + 2) (a .b .now))))) size in
-    let e = o .0 ∙ ap (λ (x : Digest). x .outcome) d in
     rw (c .before .before .before .before .before .before .before .before .before .before .before .before .enum-told2 .given .1)
-    (takes
-    (t .0)
-    (ap (λ (x : Outcome). completionLine failedMark (x .answer)) e)
-    (t .1 .0)
-    (t .1 .1)
-    (t .1 .2 ∙ ap (λ (x : Outcome). x .mount) e)
-    (o .1 .0 ∙ ap (λ (x : Digest). stored Conventional (x .store) (a .cnv .now)) d)
-    (o .1 .1 ∙ ap (λ (x : Digest). stored Sequential (x .store) (a .seq .now)) d)
-    (t .1 .3))
+    (digested failedMark s (digest s (failureAt (a .b .now) (a .at))) (c .before .before .completion-turn2 .ensures .0) (c .before .before .completion-turn2 .ensures .1) (rw size at (c .before .before .before .before .before .before .before .before .fail .ensures)))
 
 same-length-10 : tie.Need-same-length-10
 same-length-10 c = search needs

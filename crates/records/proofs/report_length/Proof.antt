@@ -1,8 +1,8 @@
 use native.Mathlib.Omega.{arith}
 use borrow.Author.Tests.{le-leb, lt-leb}
 use borrow.Author.Needs.{needs}
-use Rattle.tape.proofs.records.report_length.Statement.{statement}
-use Rattle.tape.proofs.records.report_length.Tie as tie
+use Rattle.records.proofs.report_length.Statement.{statement}
+use Rattle.records.proofs.report_length.Tie as tie
 
 mul-result : tie.Need-mul-result
 mul-result c = search needs

@@ -3,8 +3,8 @@ ghost use mathlib.Core.Path.{_≡_};
 ghost use mathlib.Core.Bool.{true};
 ghost use Prim.Native.Nat.{_+_, _≤_};
 ghost use lib.ListN.{length};
-ghost use Rattle.tape.specs.Records.{holds, stands, callBytes, offsetAt, lengthAt, onFileAt, recordAt, opens, mountPlace, reportLength, zoneCount, optionsLength, runPlace};
-ghost use Rattle.tape.specs.Told.{Stands, Opened};
+ghost use Rattle.records.specs.Records.{holds, stands, callBytes, offsetAt, lengthAt, onFileAt, recordAt, opens, mountPlace, reportLength, runPlace};
+ghost use Rattle.records.specs.Told.{Stands, Opened};
 use types::Call;
 
 // A record after `MO`.

@@ -1,5 +1,6 @@
 -- The records of a tape: "Each record follows a two-byte mark".
 use Prim.Native.Nat.{ℕ, _+_, _*_}
+use Prim.Native.Char.{code}
 use mathlib.Core.List.{List}
 use mathlib.Core.Bool.{Bool, cond, _&&_}
 use lib.ListN.{length, getD, take, drop}
@@ -7,8 +8,8 @@ use lib.Dec.{leb, eqb}
 use Rattle.wire.specs.Le.{le}
 use Rattle.types.specs.declared.Call.{Call}
 use Rattle.types.specs.declared.Call.the-variants as call
-use Rattle.tape.specs.declared.records.Record.{Record}
-use Rattle.tape.specs.declared.records.Record.the-variants.{OnFile, Good, Failed, Broken}
+use Rattle.records.specs.declared.Record.{Record}
+use Rattle.records.specs.declared.Record.the-variants.{OnFile, Good, Failed, Broken}
 
 -- n bytes stand at a place
 abbrev pub holds : ℕ → List ℕ → ℕ → Bool
@@ -42,12 +43,12 @@ failedBytes = 66
 -- the record at a place; "TR's size is in length; unused fields ignored", "Unknown, misplaced or cut record"
 unfoldable pub recordAt : List ℕ → ℕ → Record
 recordAt b at =
-    cond (stands 82 68 callBytes b at) (onFileAt b at (call.Read (offsetAt b at) (lengthAt b at)))
-    (cond (stands 87 82 callBytes b at) (onFileAt b at (call.Write (offsetAt b at) (lengthAt b at)))
-    (cond (stands 84 82 callBytes b at) (onFileAt b at (call.Truncate (lengthAt b at)))
-    (cond (stands 70 76 callBytes b at) (onFileAt b at call.Flush)
-    (cond (stands 79 75 goodBytes b at) Good
-    (cond (stands 78 79 failedBytes b at) Failed
+    cond (stands (code "R") (code "D") callBytes b at) (onFileAt b at (call.Read (offsetAt b at) (lengthAt b at)))
+    (cond (stands (code "W") (code "R") callBytes b at) (onFileAt b at (call.Write (offsetAt b at) (lengthAt b at)))
+    (cond (stands (code "T") (code "R") callBytes b at) (onFileAt b at (call.Truncate (lengthAt b at)))
+    (cond (stands (code "F") (code "L") callBytes b at) (onFileAt b at call.Flush)
+    (cond (stands (code "O") (code "K") goodBytes b at) Good
+    (cond (stands (code "N") (code "O") failedBytes b at) Failed
     Broken)))))
 
 -- ---- before: "`BK` u16; `SB` 4,096 bytes; `ZR` a report ..; `MO` length byte and options; these four once, in order"
@@ -80,10 +81,10 @@ runPlace b = mountPlace b + 3 + optionsLength b
 -- the four stand where they are due, and none of them is cut
 unfoldable pub opens : List ℕ → Bool
 opens b =
-    stands 66 75 4 b 0
-    && (stands 83 66 4098 b superPlace
-    && (stands 90 82 18 b reportPlace
-    && (stands 77 79 3 b (mountPlace b)
+    stands (code "B") (code "K") 4 b 0
+    && (stands (code "S") (code "B") 4098 b superPlace
+    && (stands (code "Z") (code "R") 18 b reportPlace
+    && (stands (code "M") (code "O") 3 b (mountPlace b)
     && leb (runPlace b) (length b))))
 
 -- what they say

@@ -1,5 +1,5 @@
-use Rattle.tape.proofs.Opening.{header}
-use Rattle.tape.specs.Records.{zoneCount, runPlace}
+use Rattle.records.proofs.Opening.{header}
+use Rattle.records.specs.Records.{zoneCount, runPlace}
 use mathlib.Core.Path.{ap}
 use lib.Dec.{leb}
 use lib.ListN.{length}
@@ -8,10 +8,10 @@ use native.Mathlib.Omega.{arith}
 use mathlib.Core.Path.{sym, _∙_}
 use mathlib.Core.Bool.{false≢true}
 use borrow.Author.Tests.{not-true, not-false, leb-true}
-use Rattle.tape.specs.Records.{opens}
+use Rattle.records.specs.Records.{opens}
 use borrow.Author.Needs.{needs}
-use Rattle.tape.proofs.records.opens.Statement.{statement}
-use Rattle.tape.proofs.records.opens.Tie as tie
+use Rattle.records.proofs.opens.Statement.{statement}
+use Rattle.records.proofs.opens.Tie as tie
 
 stands-requires : tie.Need-stands-requires
 stands-requires c κs = search needs

@@ -1,8 +1,8 @@
 use mathlib.Core.Path.{sym, _∙_}
-use Rattle.tape.specs.Records.{recordAt}
+use Rattle.records.specs.Records.{recordAt}
 use borrow.Author.Needs.{needs}
-use Rattle.tape.proofs.records.record_at.Statement.{statement}
-use Rattle.tape.proofs.records.record_at.Tie as tie
+use Rattle.records.proofs.record_at.Statement.{statement}
+use Rattle.records.proofs.record_at.Tie as tie
 
 stands-requires : tie.Need-stands-requires
 stands-requires c κs = search needs
@@ -18,7 +18,7 @@ on-file-at-requires c κs = c .before .before .before .stands .ensures .1 (c .be
 
 returns : tie.Need-returns
 unfolding recordAt
-returns c = (simp (sym (c .before .before .before .before .stands .ensures .0) ∙ c .before .before .before .if1 .taken) (cc), c .on-file-at .ensures .1)
+returns c = (simp (sym (c .before .before .before .before .stands .ensures .0) ∙ c .before .before .before .if1 .taken, c .on-file-at .ensures .0, c .before .length-at .ensures, c .before .before .offset-at .ensures), c .on-file-at .ensures .1)
 
 stands-requires-2 : tie.Need-stands-requires-2
 stands-requires-2 c κs = search needs
@@ -34,7 +34,7 @@ on-file-at-requires-2 c κs = c .before .before .before .stands2 .ensures .1 (c 
 
 returns-2 : tie.Need-returns-2
 unfolding recordAt
-returns-2 c = (simp (sym (c .before .before .before .before .before .before .stands .ensures .0) ∙ c .before .before .before .before .before .if1 .left, sym (c .before .before .before .before .stands2 .ensures .0) ∙ c .before .before .before .if2 .taken) (cc), c .on-file-at2 .ensures .1)
+returns-2 c = (simp (sym (c .before .before .before .before .before .before .stands .ensures .0) ∙ c .before .before .before .before .before .if1 .left, sym (c .before .before .before .before .stands2 .ensures .0) ∙ c .before .before .before .if2 .taken, c .on-file-at2 .ensures .0, c .before .length-at2 .ensures, c .before .before .offset-at2 .ensures), c .on-file-at2 .ensures .1)
 
 stands-requires-3 : tie.Need-stands-requires-3
 stands-requires-3 c κs = search needs
@@ -47,7 +47,7 @@ on-file-at-requires-3 c κs = c .before .before .stands3 .ensures .1 (c .before 
 
 returns-3 : tie.Need-returns-3
 unfolding recordAt
-returns-3 c = (simp (sym (c .before .before .before .before .before .before .before .stands .ensures .0) ∙ c .before .before .before .before .before .before .if1 .left, sym (c .before .before .before .before .before .stands2 .ensures .0) ∙ c .before .before .before .before .if2 .left, sym (c .before .before .before .stands3 .ensures .0) ∙ c .before .before .if3 .taken) (cc), c .on-file-at3 .ensures .1)
+returns-3 c = (simp (sym (c .before .before .before .before .before .before .before .stands .ensures .0) ∙ c .before .before .before .before .before .before .if1 .left, sym (c .before .before .before .before .before .stands2 .ensures .0) ∙ c .before .before .before .before .if2 .left, sym (c .before .before .before .stands3 .ensures .0) ∙ c .before .before .if3 .taken, c .on-file-at3 .ensures .0, c .before .length-at3 .ensures), c .on-file-at3 .ensures .1)
 
 stands-requires-4 : tie.Need-stands-requires-4
 stands-requires-4 c κs = search needs
@@ -57,7 +57,7 @@ on-file-at-requires-4 c κs = c .before .stands4 .ensures .1 (c .if4 .taken)
 
 returns-4 : tie.Need-returns-4
 unfolding recordAt
-returns-4 c = (simp (sym (c .before .before .before .before .before .before .before .before .stands .ensures .0) ∙ c .before .before .before .before .before .before .before .if1 .left, sym (c .before .before .before .before .before .before .stands2 .ensures .0) ∙ c .before .before .before .before .before .if2 .left, sym (c .before .before .before .before .stands3 .ensures .0) ∙ c .before .before .before .if3 .left, sym (c .before .before .stands4 .ensures .0) ∙ c .before .if4 .taken) (cc), c .on-file-at4 .ensures .1)
+returns-4 c = (simp (sym (c .before .before .before .before .before .before .before .before .stands .ensures .0) ∙ c .before .before .before .before .before .before .before .if1 .left, sym (c .before .before .before .before .before .before .stands2 .ensures .0) ∙ c .before .before .before .before .before .if2 .left, sym (c .before .before .before .before .stands3 .ensures .0) ∙ c .before .before .before .if3 .left, sym (c .before .before .stands4 .ensures .0) ∙ c .before .if4 .taken, c .on-file-at4 .ensures .0), c .on-file-at4 .ensures .1)
 
 stands-requires-5 : tie.Need-stands-requires-5
 stands-requires-5 c κs = search needs

@@ -1,6 +1,6 @@
 use borrow.Author.Needs.{needs}
-use Rattle.tape.proofs.records.run_place.Statement.{statement}
-use Rattle.tape.proofs.records.run_place.Tie as tie
+use Rattle.records.proofs.run_place.Statement.{statement}
+use Rattle.records.proofs.run_place.Tie as tie
 
 mount-place-requires : tie.Need-mount-place-requires
 mount-place-requires c κs = search needs

@@ -3,8 +3,8 @@ use mathlib.Core.Bool.{false≢true}
 use Rattle.types.proofs.Tests.{leb-room, leb-no-room}
 use borrow.Author.Tests.{leb-true}
 use borrow.Author.Needs.{needs}
-use Rattle.tape.proofs.records.holds.Statement.{statement}
-use Rattle.tape.proofs.records.holds.Tie as tie
+use Rattle.records.proofs.holds.Statement.{statement}
+use Rattle.records.proofs.holds.Tie as tie
 
 sub-result : tie.Need-sub-result
 sub-result c = search needs

@@ -1,10 +1,10 @@
 use mathlib.Core.Bool.{false≢true}
 use native.Mathlib.Omega.{arith}
 use mathlib.Core.Path.{sym, _∙_}
-use Rattle.tape.specs.Records.{stands}
+use Rattle.records.specs.Records.{stands}
 use borrow.Author.Needs.{needs}
-use Rattle.tape.proofs.records.stands.Statement.{statement}
-use Rattle.tape.proofs.records.stands.Tie as tie
+use Rattle.records.proofs.stands.Statement.{statement}
+use Rattle.records.proofs.stands.Tie as tie
 
 holds-requires : tie.Need-holds-requires
 holds-requires c κs = search needs

@@ -1,9 +1,9 @@
 use native.Mathlib.Omega.{arith}
 use mathlib.Core.Path.{ap}
-use Rattle.tape.specs.Records.{reportLength}
+use Rattle.records.specs.Records.{reportLength}
 use borrow.Author.Needs.{needs}
-use Rattle.tape.proofs.records.mount_place.Statement.{statement}
-use Rattle.tape.proofs.records.mount_place.Tie as tie
+use Rattle.records.proofs.mount_place.Statement.{statement}
+use Rattle.records.proofs.mount_place.Tie as tie
 
 u32-at-requires : tie.Need-u32-at-requires
 u32-at-requires c κs = search needs
