@@ -95,10 +95,10 @@ fn put_mark(out: &mut [u8], at: usize, x: Call) -> usize
     ensures { λ r. ⌜ r ≡ at + 2 ⌝ }
 {
     match x {
-        Call::Read(_, _) => put_pair(out, at, 82, 68),
-        Call::Write(_, _) => put_pair(out, at, 87, 82),
-        Call::Truncate(_) => put_pair(out, at, 84, 82),
-        Call::Flush => put_pair(out, at, 70, 76),
+        Call::Read(_, _) => put_pair(out, at, b'R', b'D'),
+        Call::Write(_, _) => put_pair(out, at, b'W', b'R'),
+        Call::Truncate(_) => put_pair(out, at, b'T', b'R'),
+        Call::Flush => put_pair(out, at, b'F', b'L'),
     }
 }
 
@@ -106,11 +106,11 @@ fn letter_of(k: CommandKind) -> u8
     ensures { λ r. ⌜ r ≡ letterOf k ⌝ }
 {
     match k {
-        CommandKind::Read => 82,
-        CommandKind::Write => 87,
-        CommandKind::Reset => 90,
-        CommandKind::Finish => 70,
-        CommandKind::Flush => 83,
+        CommandKind::Read => b'R',
+        CommandKind::Write => b'W',
+        CommandKind::Reset => b'Z',
+        CommandKind::Finish => b'F',
+        CommandKind::Flush => b'S',
     }
 }
 
@@ -121,7 +121,7 @@ fn put_command(out: &mut [u8], at: usize, c: Command) -> usize
     ensures { λ r. ⌜ r ≤ at + 44 ⌝ }
 {
     let k = c.kind;
-    let after = put_pair(out, at, 32, letter_of(k));
+    let after = put_pair(out, at, b' ', letter_of(k));
     put_two_fields(out, after, c.address, c.length)
 }
 
@@ -131,7 +131,7 @@ fn put_done(out: &mut [u8], at: usize, count: u64) -> usize
     ensures { λ r. ⌜ Put (now (out .entry)) (now (out .exit)) at r (32 ∷ 68 ∷ field count) ⌝ }
     ensures { λ r. ⌜ r ≤ at + 23 ⌝ }
 {
-    let next = put_pair(out, at, 32, 68);
+    let next = put_pair(out, at, b' ', b'D');
     put_field(out, next, count)
 }
 
@@ -215,7 +215,7 @@ pub fn put_mount_line(out: &mut [u8], at: usize, a: MountAnswer) -> usize
     ensures { λ r. ⌜ Put (now (out .entry)) (now (out .exit)) at r (mountLine a) ⌝ }
     ensures { λ r. ⌜ r ≤ at + 96 ⌝ }
 {
-    let next = put_pair(out, at, 77, 79);
+    let next = put_pair(out, at, b'M', b'O');
     let end = put_mount_answer(out, next, a);
     put_byte(out, end, 10)
 }
@@ -226,7 +226,7 @@ pub fn put_broken_line(out: &mut [u8], at: usize) -> usize
     ensures { λ r. ⌜ Put (now (out .entry)) (now (out .exit)) at r brokenLine ⌝ }
     ensures { λ r. ⌜ r ≤ at + 96 ⌝ }
 {
-    let next = put_pair(out, at, 63, 63);
+    let next = put_pair(out, at, b'?', b'?');
     let end = put_field(out, next, 40);
     put_byte(out, end, 10)
 }

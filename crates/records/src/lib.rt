@@ -70,24 +70,24 @@ pub fn record_at(b: &[u8], at: usize) -> Record
     ensures { λ r. ⌜ r ≡ recordAt (now (b .entry)) at ⌝ }
     ensures { λ r. ⌜ Stands r (now (b .entry)) at ⌝ }
 {
-    if stands(b, at, 82, 68, 23) {
+    if stands(b, at, b'R', b'D', 23) {
         let x = Call::Read(offset_at(b, at), length_at(b, at));
         return on_file_at(b, at, x);
     }
-    if stands(b, at, 87, 82, 23) {
+    if stands(b, at, b'W', b'R', 23) {
         let x = Call::Write(offset_at(b, at), length_at(b, at));
         return on_file_at(b, at, x);
     }
-    if stands(b, at, 84, 82, 23) {
+    if stands(b, at, b'T', b'R', 23) {
         return on_file_at(b, at, Call::Truncate(length_at(b, at)));
     }
-    if stands(b, at, 70, 76, 23) {
+    if stands(b, at, b'F', b'L', 23) {
         return on_file_at(b, at, Call::Flush);
     }
-    if stands(b, at, 79, 75, 2) {
+    if stands(b, at, b'O', b'K', 2) {
         return Record::Good;
     }
-    if stands(b, at, 78, 79, 66) {
+    if stands(b, at, b'N', b'O', 66) {
         Record::Failed
     } else {
         Record::Broken
@@ -127,16 +127,16 @@ pub fn opens(b: &[u8]) -> bool
     ensures { λ r. ⌜ r ≡ opens (now (b .entry)) ⌝ }
     ensures { λ r. ⌜ (r ≡ true → Opened (now (b .entry))) ⌝ }
 {
-    if !stands(b, 0, 66, 75, 4) {
+    if !stands(b, 0, b'B', b'K', 4) {
         return false;
     }
-    if !stands(b, 4, 83, 66, 4098) {
+    if !stands(b, 4, b'S', b'B', 4098) {
         return false;
     }
-    if !stands(b, 4102, 90, 82, 18) {
+    if !stands(b, 4102, b'Z', b'R', 18) {
         return false;
     }
-    if !stands(b, mount_place(b), 77, 79, 3) {
+    if !stands(b, mount_place(b), b'M', b'O', 3) {
         return false;
     }
     run_place(b) <= b.len()

@@ -110,13 +110,13 @@ fn turn_of(
         }
         Record::Good => {
             let o = completion::complete(m, cnv, seq);
-            completion_turn(o, 79, 75, at + 2, out, to)
+            completion_turn(o, b'O', b'K', at + 2, out, to)
         }
         Record::Failed => {
             let from = at + 2;
             let next = at + 66;
             let o = completion::fail(m, cnv, seq, &b[from..next], true);
-            completion_turn(o, 78, 79, next, out, to)
+            completion_turn(o, b'N', b'O', next, out, to)
         }
         Record::Broken => broken_turn(at, m, out, to),
     }
