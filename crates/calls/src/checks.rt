@@ -20,7 +20,7 @@ use types::Volume;
 fn files_fit(files: u32, words: usize) -> bool
     ensures { λ r. ⌜ r ≡ filesFit files words ⌝ }
 {
-    (files as usize <= table::rows_lent(words)) & (files <= types::MOST_FILES)
+    (files as usize <= table::rows_lent(words)) & (files <= types::units::MOST_FILES)
 }
 
 // Check 10, of the counts: no more files of either kind than rows lent or than any mount has, and a block that is one.
@@ -28,7 +28,9 @@ pub fn counts_fit(v: Volume, cnv: usize, seq: usize) -> bool
     ensures { λ r. ⌜ r ≡ countsFit v cnv seq ⌝ }
     ensures { λ r. ⌜ (r ≡ true → goodBlock (v .block) ≡ true) ⌝ }
 {
-    files_fit(v.conventional, cnv) & files_fit(v.sequential, seq) & types::good_block(v.block)
+    files_fit(v.conventional, cnv)
+        & files_fit(v.sequential, seq)
+        & types::units::good_block(v.block)
 }
 
 fn row_in(t: &[u64], files: u32, number: u32) -> Lookup
@@ -119,7 +121,7 @@ fn is_placed(block: u64, start: u64, capacity: u64) -> bool
 {
     let starts = (0 < start) & sectors_on_block(block, start);
     let whole = (0 < capacity) & on_block(block, capacity);
-    starts & whole & types::ends_in_reach(start, capacity / 512)
+    starts & whole & types::units::ends_in_reach(start, capacity / 512)
 }
 
 fn is_sized(block: u64, capacity: u64, size: u64) -> bool

@@ -143,7 +143,7 @@ fn settle(m: Mount, kind: FileKind, number: u32, answer: Answer) -> Outcome
     match answer {
         Answer::Issue(command) => Outcome {
             answer,
-            mount: types::with_held(
+            mount: types::mounts::with_held(
                 m,
                 Held {
                     kind,
@@ -253,7 +253,7 @@ pub fn call_by(m: Mount, cnv: &[u64], seq: &[u64], kind: u64, number: u32, x: Ca
     ensures { λ r. ⌜ r ≡ outcomeBy m (now (cnv .entry)) (now (seq .entry)) kind number x ⌝ }
 {
     if kind < 2 {
-        call(m, cnv, seq, types::kind_from(kind), number, x)
+        call(m, cnv, seq, types::codes::kind_from(kind), number, x)
     } else {
         let v = m.volume;
         refused(m, no_kind(v, cnv.len(), seq.len()))

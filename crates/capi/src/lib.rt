@@ -41,7 +41,7 @@ fn tell(w: &mut [u64], a: &mut [u64], o: Outcome) -> u64
     let x = o.answer;
     words::put_state(w, m);
     words::answers::put_values(a, words::answers::answer_values(x));
-    types::answer_number(x)
+    types::answers::answer_number(x)
 }
 
 // A call, with the mount's words and the answer's.
@@ -215,7 +215,7 @@ fn tell_mounted(w: &mut [u64], a: &mut [u64], o: MountOutcome) -> u64
     let x = o.answer;
     words::put_mount(w, m);
     words::answers::put_values(a, words::answers::mount_values(x));
-    types::mount_number(x)
+    types::answers::mount_number(x)
 }
 
 // Mounts: fills both tables and the mount's words.
@@ -252,7 +252,7 @@ fn tell_found(a: &mut [u64], x: FindAnswer) -> u64
     ensures { λ _. ⌜ now (a .exit) ≡ toldFound (now (a .entry)) x .answer ⌝ }
 {
     words::answers::put_values(a, words::answers::find_values(x));
-    types::find_number(x)
+    types::answers::find_number(x)
 }
 
 // The file of a name.
@@ -278,7 +278,7 @@ fn show_answer(m: Mount, cnv: &[u64], seq: &[u64], kind: u32, number: u32) -> Sh
     ensures { λ r. ⌜ r ≡ showAnswer m (now (cnv .entry)) (now (seq .entry)) kind number ⌝ }
 {
     if kind < 2 {
-        calls::show(m, cnv, seq, types::kind_from(kind as u64), number)
+        calls::show(m, cnv, seq, types::codes::kind_from(kind as u64), number)
     } else {
         let v = m.volume;
         ShowAnswer::Refused(calls::no_kind(v, cnv.len(), seq.len()))
@@ -291,7 +291,7 @@ fn tell_shown(a: &mut [u64], x: ShowAnswer) -> u64
     ensures { λ _. ⌜ now (a .exit) ≡ toldShown (now (a .entry)) x .answer ⌝ }
 {
     words::answers::put_values(a, words::answers::show_values(x));
-    types::show_number(x)
+    types::answers::show_number(x)
 }
 
 // A file's row, and the mode that it is shown with.

@@ -57,8 +57,8 @@ pub fn recovery_grid() -> [[Rule; 3]; 4]
 pub fn rule_of(grid: [[Rule; 3]; 4], policy: ErrorPolicy, condition: Condition) -> Rule
     ensures { λ r. ⌜ r ≡ ruleOf grid policy condition ⌝ }
 {
-    let i = types::policy_code(policy) as usize;
-    let j = types::condition_code(condition) as usize;
+    let i = types::codes::policy_code(policy) as usize;
+    let j = types::codes::condition_code(condition) as usize;
     let row = grid[i];
     row[j]
 }

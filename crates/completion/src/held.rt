@@ -29,7 +29,7 @@ fn same_command(a: Command, b: Command) -> bool
 {
     let this = a.kind;
     let that = b.kind;
-    (types::command_code(this) == types::command_code(that))
+    (types::codes::command_code(this) == types::codes::command_code(that))
         & (a.address == b.address)
         & (a.length == b.length)
 }

@@ -104,7 +104,7 @@ fn succeed(m: Mount, h: Held, row: Row) -> Digest
     let size = size_after(kind, done, command.length, row);
     let count = count_of(done, command.length);
     let after = table::with_size(row, size);
-    let mount = types::without_held(m);
+    let mount = types::mounts::without_held(m);
     Digest {
         outcome: Outcome {
             answer: Answer::Done(count),
@@ -123,7 +123,7 @@ fn matches_sequential(row: Row, z: Zone) -> bool
     zones::is_sequential(z)
         & (z.start == row.start)
         & (zones::bytes_of(z.capacity) == row.capacity)
-        & (types::condition_code(before) <= types::condition_code(now))
+        & (types::codes::condition_code(before) <= types::codes::condition_code(now))
 }
 
 fn within_conventional(row: Row, z: Zone) -> bool
@@ -233,7 +233,7 @@ fn marked_by(policy: ErrorPolicy, m: Mount) -> Mount
     ensures { λ r. ⌜ r ≡ markedBy policy m ⌝ }
 {
     match policy {
-        ErrorPolicy::RemountRo => types::made_readonly(m),
+        ErrorPolicy::RemountRo => types::mounts::made_readonly(m),
         ErrorPolicy::ZoneRo => m,
         ErrorPolicy::ZoneOffline => m,
         ErrorPolicy::Repair => m,
@@ -259,7 +259,7 @@ fn recovering_to(m: Mount, h: Held, row: Row) -> Digest
     let volume = m.volume;
     let policy = volume.policy;
     let kind = h.kind;
-    let mount = marked_by(policy, types::without_held(m));
+    let mount = marked_by(policy, types::mounts::without_held(m));
     failing_with(mount, row, Store::Put(kind, h.number, row))
 }
 
@@ -271,7 +271,7 @@ fn recover(m: Mount, h: Held, row: Row, z: Zone) -> Digest
     let failed = command.kind;
     let kind = h.kind;
     if nothing_lost(kind, failed, z, row.size) {
-        return failing_with(types::without_held(m), row, Store::Nothing);
+        return failing_with(types::mounts::without_held(m), row, Store::Nothing);
     }
     let volume = m.volume;
     let policy = volume.policy;

@@ -70,7 +70,7 @@ fn print_fields(s: SuperBlock) {
 }
 
 fn print_refusal(refusal: Refusal) {
-    print_number(types::refusal_number(refusal));
+    print_number(types::answers::refusal_number(refusal));
 }
 
 fn print_super(check: SuperCheck, fields: SuperBlock) {
@@ -112,7 +112,7 @@ fn super_vector(label: &[u8], first: u64, features: u64, ids: u64, perm: u64, la
 
 fn print_options(o: Options) {
     match o {
-        Options::Policy(p) => print_policy(types::policy_code(p)),
+        Options::Policy(p) => print_policy(types::codes::policy_code(p)),
         Options::Bad => print_refusal(Refusal::BadOptions),
     }
 }

@@ -67,7 +67,7 @@ fn put_refusal(out: &mut [u8], at: usize, x: Refusal) -> usize
     ensures { λ r. ⌜ Put (now (out .entry)) (now (out .exit)) at r (fields (refusalNumber x ∷ refusalValues x)) ⌝ }
     ensures { λ r. ⌜ r ≤ at + 42 ⌝ }
 {
-    let next = put_field(out, at, types::refusal_number(x));
+    let next = put_field(out, at, types::answers::refusal_number(x));
     put_value(out, next, value_of(x))
 }
 
@@ -177,7 +177,7 @@ fn put_completion_answer(out: &mut [u8], at: usize, a: Answer) -> usize
         Answer::Issue(c) => {
             let k = c.kind;
             let first = put_field(out, at, 0);
-            let next = put_field(out, first, types::command_code(k));
+            let next = put_field(out, first, types::codes::command_code(k));
             put_two_fields(out, next, c.address, c.length)
         }
     }

@@ -248,7 +248,7 @@ fn answer_of(
 ) -> MountAnswer
     ensures { λ r. ⌜ r ≡ answerOf block check parsed aggregate (now (b .entry)) cnvs seqs ⌝ }
 {
-    if !types::good_block(block) {
+    if !types::units::good_block(block) {
         return MountAnswer::Refused(Refusal::BadBlock);
     }
     if let SuperCheck::Bad(r) = check {
@@ -287,7 +287,7 @@ fn mount_of(answer: MountAnswer, block: u64, fields: SuperBlock, policy: ErrorPo
     ensures { λ r. ⌜ r ≡ mountOf answer block fields policy ⌝ }
 {
     match answer {
-        MountAnswer::Refused(_) => types::empty_mount(),
+        MountAnswer::Refused(_) => types::mounts::empty_mount(),
         MountAnswer::Mounted(cnvs, seqs) => {
             let uuid = fields.uuid;
             let volume = Volume {

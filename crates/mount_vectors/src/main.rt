@@ -118,7 +118,7 @@ fn print_zone(refusal: Refusal) {
 }
 
 fn print_answer(answer: MountAnswer) {
-    print_number(types::mount_number(answer));
+    print_number(types::answers::mount_number(answer));
     match answer {
         MountAnswer::Refused(refusal) => print_zone(refusal),
         MountAnswer::Mounted(cnvs, seqs) => {

@@ -49,7 +49,7 @@ fn number_read(text: &[u8]) -> NumberRead
             return NumberRead::Nothing;
         }
         value = value * 10 + ((byte - b'0') as u32);
-        if types::MOST_FILES <= value {
+        if types::units::MOST_FILES <= value {
             return NumberRead::Nothing;
         }
         i += 1;

@@ -111,8 +111,8 @@ pub fn put_row(t: &mut [u64], i: usize, row: Row)
     let b = i * ROW_WORDS;
     let c = row.condition;
     let a = row.access;
-    let condition = types::condition_code(c);
-    let access = types::access_code(a);
+    let condition = types::codes::condition_code(c);
+    let access = types::codes::access_code(a);
     t[b] = row.start;
     t[b + 1] = row.capacity;
     t[b + 2] = row.size;

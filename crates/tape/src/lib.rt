@@ -173,7 +173,7 @@ pub fn open_tape(b: &[u8], cnv: &mut [u64], seq: &mut [u64], out: &mut [u8], to:
     ensures { λ r. ⌜ Takes (openTurn (now (b .entry)) (now (cnv .entry)) (now (seq .entry))) (now (out .entry)) (now (out .exit)) to r (now (cnv .exit)) (now (seq .exit)) ⌝ }
 {
     if !records::opens(b) {
-        return broken_turn(0, types::empty_mount(), out, to);
+        return broken_turn(0, types::mounts::empty_mount(), out, to);
     }
     let o = mount_from(b, cnv, seq);
     let answer = o.answer;

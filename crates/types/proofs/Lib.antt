@@ -1,2 +1,5 @@
 pub mod Blocks
+pub mod CodeLaws
+pub mod PredicateLaws
 pub mod Tests
+pub mod VerdictLaws

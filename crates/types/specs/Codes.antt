@@ -1,7 +1,7 @@
--- The number that stands for each kind, condition, access, policy and command, wherever one is written as a number.
+-- The number that stands for each kind, condition, access, policy and command, wherever one is written as a number, and back.
 use Prim.Native.Nat.{ℕ}
-use mathlib.Core.Bool.{cond}
-use lib.Dec.{eqb}
+use mathlib.Core.Bool.{Bool, cond}
+use lib.Dec.{eqb, ltb}
 use Rattle.types.specs.declared.FileKind.{FileKind}
 use Rattle.types.specs.declared.FileKind.the-variants.{Conventional, Sequential}
 use Rattle.types.specs.declared.Condition.{Condition}
@@ -13,12 +13,20 @@ use Rattle.types.specs.declared.ErrorPolicy.the-variants.{RemountRo, Zon
 use Rattle.types.specs.declared.CommandKind.{CommandKind}
 use Rattle.types.specs.declared.CommandKind.the-variants as command
 
+-- 1 for yes, 0 for no
+abbrev pub flagCode : Bool → ℕ
+flagCode b = cond b 1 0
+
 -- "kind byte 0 cnv or 1 seq"
 abbrev pub kindCode : FileKind → ℕ
 kindCode Conventional = 0
 kindCode Sequential = 1
 
--- and back, of a number that is one of the two
+-- "a kind above 1 answers 1": the number is that of a kind
+abbrev pub isKind : ℕ → Bool
+isKind n = ltb n 2
+
+-- and back, of such a number
 abbrev pub kindFrom : ℕ → FileKind
 kindFrom n = cond (eqb n 0) Conventional Sequential
 
@@ -41,6 +49,10 @@ policyCode ZoneRo = 1
 policyCode ZoneOffline = 2
 policyCode Repair = 3
 
+-- and back, of a number below 4
+abbrev pub policyFrom : ℕ → ErrorPolicy
+policyFrom n = cond (eqb n 0) RemountRo (cond (eqb n 1) ZoneRo (cond (eqb n 2) ZoneOffline Repair))
+
 -- the letters R W Z F S of the tape, in this order
 abbrev pub commandCode : CommandKind → ℕ
 commandCode command.Read = 0
@@ -48,3 +60,9 @@ commandCode command.Write = 1
 commandCode command.Reset = 2
 commandCode command.Finish = 3
 commandCode command.Flush = 4
+
+-- and back, of a number below 5
+abbrev pub commandFrom : ℕ → CommandKind
+commandFrom n =
+    cond (eqb n 0) command.Read
+    (cond (eqb n 1) command.Write (cond (eqb n 2) command.Reset (cond (eqb n 3) command.Finish command.Flush)))

@@ -3,6 +3,11 @@ use Prim.Native.Nat.{ℕ}
 use mathlib.Core.List.{List, [], _∷_}
 use Rattle.types.specs.declared.Refusal.{Refusal}
 use Rattle.types.specs.declared.Refusal.the-variants.{NoFile, Busy, ReadOnlyMount, Denied, BeyondCapacity, Misplaced, Failed, NothingOutstanding, BadRecord, Impossible, BadBlock, SuperLength, SuperMagic, SuperChecksum, SuperFeatures, SuperOwner, SuperTail, BadOptions, BadReport, BadZone, TooFewRows}
+use Rattle.types.specs.declared.RefusalCode.{RefusalCode}
+use Rattle.types.specs.declared.Values.{Values}
+use Rattle.types.specs.declared.Values.the-variants.{Nothing, One, Two}
+use Rattle.types.specs.declared.Verdict.{Verdict}
+use Rattle.types.specs.declared.Verdict.the-variants as verdict
 use Rattle.types.specs.declared.Row.{Row}
 use Rattle.types.specs.declared.Answer.{Answer}
 use Rattle.types.specs.declared.Answer.the-variants as answer
@@ -14,70 +19,78 @@ use Rattle.types.specs.declared.ShowAnswer.{ShowAnswer}
 use Rattle.types.specs.declared.ShowAnswer.the-variants as show
 use Rattle.types.specs.Codes.{kindCode, conditionCode, accessCode, commandCode}
 
-abbrev pub refusalNumber : Refusal → ℕ
+-- ---- a refusal
+
+-- a number with no value, and one with a value
+abbrev pub plain : ℕ → RefusalCode
+plain number = record { number = number; values = Nothing }
+
+abbrev pub withValue : ℕ → ℕ → RefusalCode
+withValue number value = record { number = number; values = One value }
+
+-- the table "When the drawer says no"
+abbrev pub refusalCode : Refusal → RefusalCode
 -- "no such file or name"
-refusalNumber NoFile = 1
+refusalCode NoFile = plain 1
 -- "a command is outstanding"
-refusalNumber Busy = 2
+refusalCode Busy = plain 2
 -- "the mount is read-only"
-refusalNumber ReadOnlyMount = 3
+refusalCode ReadOnlyMount = plain 3
 -- "access too low (a read needs read, all else write); truncating cnv, or to neither 0 nor capacity"
-refusalNumber Denied = 4
+refusalCode Denied = plain 4
 -- "offset + length above capacity"
-refusalNumber BeyondCapacity = 5
+refusalCode BeyondCapacity = plain 5
 -- "seq write off the block, or offset ≠ size"
-refusalNumber Misplaced = 6
--- "the disk failed it (completion digested)"
-refusalNumber (Failed size) = 7
+refusalCode Misplaced = plain 6
+-- "the disk failed it (completion digested)", "for NO 7 the new size"
+refusalCode (Failed size) = withValue 7 size
 -- "completion with nothing outstanding"
-refusalNumber NothingOutstanding = 8
+refusalCode NothingOutstanding = plain 8
 -- "failed completion's zone record doesn't fit"
-refusalNumber BadRecord = 9
+refusalCode BadRecord = plain 9
 -- "mount value or tables impossible"
-refusalNumber Impossible = 10
+refusalCode Impossible = plain 10
 -- "block"
-refusalNumber BadBlock = 20
+refusalCode BadBlock = plain 20
 -- "super block length, magic, checksum"
-refusalNumber SuperLength = 21
-refusalNumber SuperMagic = 22
-refusalNumber SuperChecksum = 23
+refusalCode SuperLength = plain 21
+refusalCode SuperMagic = plain 22
+refusalCode SuperChecksum = plain 23
 -- "features beyond bit 3; uid or gid in use and 0xFFFFFFFF; nonzero tail"
-refusalNumber SuperFeatures = 24
-refusalNumber SuperOwner = 25
-refusalNumber SuperTail = 26
+refusalCode SuperFeatures = plain 24
+refusalCode SuperOwner = plain 25
+refusalCode SuperTail = plain 26
 -- "options"
-refusalNumber BadOptions = 27
+refusalCode BadOptions = plain 27
 -- "report header or length"
-refusalNumber BadReport = 28
--- "bad zone, with the lowest zone number"
-refusalNumber (BadZone zone) = 29
+refusalCode BadReport = plain 28
+-- "bad zone, with the lowest zone number", "for 29 the zone"
+refusalCode (BadZone zone) = withValue 29 zone
 -- "too few rows for either kind"
-refusalNumber TooFewRows = 30
+refusalCode TooFewRows = plain 30
+
+-- the values as a list
+abbrev pub listed : Values → List ℕ
+listed Nothing = []
+listed (One a) = a ∷ []
+listed (Two a b) = a ∷ b ∷ []
+
+abbrev pub refusalNumber : Refusal → ℕ
+refusalNumber x = refusalCode x .number
 
 abbrev pub refusalValues : Refusal → List ℕ
--- "for NO 7 the new size"
-refusalValues (Failed size) = size ∷ []
--- "for 29 the zone"
-refusalValues (BadZone zone) = zone ∷ []
-refusalValues NoFile = []
-refusalValues Busy = []
-refusalValues ReadOnlyMount = []
-refusalValues Denied = []
-refusalValues BeyondCapacity = []
-refusalValues Misplaced = []
-refusalValues NothingOutstanding = []
-refusalValues BadRecord = []
-refusalValues Impossible = []
-refusalValues BadBlock = []
-refusalValues SuperLength = []
-refusalValues SuperMagic = []
-refusalValues SuperChecksum = []
-refusalValues SuperFeatures = []
-refusalValues SuperOwner = []
-refusalValues SuperTail = []
-refusalValues BadOptions = []
-refusalValues BadReport = []
-refusalValues TooFewRows = []
+refusalValues x = listed (refusalCode x .values)
+
+-- what checks find: 0 where they are passed
+abbrev pub verdictNumber : Verdict → ℕ
+verdictNumber verdict.Passed = 0
+verdictNumber (verdict.Refused x) = refusalNumber x
+
+abbrev pub verdictValues : Verdict → List ℕ
+verdictValues verdict.Passed = []
+verdictValues (verdict.Refused x) = refusalValues x
+
+-- ---- answers
 
 abbrev pub answerNumber : Answer → ℕ
 answerNumber (answer.Refused r) = refusalNumber r

@@ -79,7 +79,7 @@ pub fn answer_values(a: Answer) -> Values
             let kind = command.kind;
             up_to_three(
                 3,
-                types::command_code(kind),
+                types::codes::command_code(kind),
                 command.address,
                 command.length,
             )
@@ -102,7 +102,7 @@ pub fn find_values(a: FindAnswer) -> Values
     match a {
         FindAnswer::Refused(x) => refusal_values(x),
         FindAnswer::Found(kind, number) => {
-            up_to_three(2, types::kind_code(kind), number as u64, 0)
+            up_to_three(2, types::codes::kind_code(kind), number as u64, 0)
         }
     }
 }
@@ -120,8 +120,8 @@ pub fn show_values(a: ShowAnswer) -> Values
                 first: row.start,
                 second: row.capacity,
                 third: row.size,
-                fourth: types::condition_code(condition),
-                fifth: types::access_code(access),
+                fourth: types::codes::condition_code(condition),
+                fifth: types::codes::access_code(access),
                 sixth: mode as u64,
             }
         }

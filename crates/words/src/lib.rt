@@ -159,7 +159,7 @@ fn held_from(w: &[u64]) -> Held
     requires { ⌜ mountLength ≤ length (now w) ⌝ }
     ensures { λ r. ⌜ r ≡ heldFrom (now (w .entry)) ⌝ }
 {
-    let kind = types::kind_from(w[11]);
+    let kind = types::codes::kind_from(w[11]);
     let number = short_of(w[12]);
     let code = command_from(w[13]);
     let command = Command {
@@ -272,7 +272,7 @@ fn put_volume(w: &mut [u64], v: Volume)
 {
     let policy = v.policy;
     let uuid = v.uuid;
-    let code = types::policy_code(policy);
+    let code = types::codes::policy_code(policy);
     let low = low_word(uuid);
     let high = high_word(uuid);
     w[0] = v.block;
@@ -293,8 +293,8 @@ fn put_held(w: &mut [u64], held: Held)
     let kind = held.kind;
     let command = held.command;
     let operation = command.kind;
-    let kind_word = types::kind_code(kind);
-    let command_word = types::command_code(operation);
+    let kind_word = types::codes::kind_code(kind);
+    let command_word = types::codes::command_code(operation);
     w[11] = kind_word;
     w[12] = held.number as u64;
     w[13] = command_word;

@@ -151,7 +151,7 @@ fn good_capacity(z: Zone, unit: u64) -> bool
 fn good_end(z: Zone) -> bool
     ensures { λ r. ⌜ r ≡ goodEnd z ⌝ }
 {
-    types::ends_in_reach(z.start, z.length)
+    types::units::ends_in_reach(z.start, z.length)
 }
 
 fn good_type(z: Zone) -> bool

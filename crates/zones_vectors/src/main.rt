@@ -166,7 +166,7 @@ fn print_check(check: ReportCheck) {
             io::print_decimal(1, 0);
         }
         ReportCheck::Bad(refusal) => {
-            io::print_decimal(1, types::refusal_number(refusal));
+            io::print_decimal(1, types::answers::refusal_number(refusal));
             print_zone(refusal);
         }
     }

@@ -1,6 +1,6 @@
 use borrow.Author.Needs.{needs}
-use Rattle.types.proofs.show_number.Statement.{statement}
-use Rattle.types.proofs.show_number.Tie as tie
+use Rattle.types.proofs.answers.find_number.Statement.{statement}
+use Rattle.types.proofs.answers.find_number.Tie as tie
 
 enum-known-a : tie.Need-enum-known-a
 enum-known-a c = search needs
@@ -17,6 +17,6 @@ returns c = rw (c .before .before .a .given .1) (c .refusal-number .ensures)
 returns-2 : tie.Need-returns-2
 returns-2 c = search needs
 
-pub show-number-spec : {M : Type 1} → statement M
-show-number-spec =
+pub find-number-spec : {M : Type 1} → statement M
+find-number-spec =
     tie.close (tie.spec enum-known-a refusal-number-requires enum-told returns returns-2)

@@ -1,7 +1,7 @@
 use mathlib.Core.Path.{sym}
 use Rattle.types.proofs.Tests.{leb-room, leb-no-room}
-use Rattle.types.proofs.ends_in_reach.Statement.{statement}
-use Rattle.types.proofs.ends_in_reach.Tie as tie
+use Rattle.types.proofs.units.ends_in_reach.Statement.{statement}
+use Rattle.types.proofs.units.ends_in_reach.Tie as tie
 
 returns : tie.Need-returns
 returns c = leb-room _ _ _ (c .if1 .taken)

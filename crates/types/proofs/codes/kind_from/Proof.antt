@@ -1,6 +1,6 @@
 use borrow.Author.Tests.{eq-eqb, ne-eqb}
-use Rattle.types.proofs.kind_from.Statement.{statement}
-use Rattle.types.proofs.kind_from.Tie as tie
+use Rattle.types.proofs.codes.kind_from.Statement.{statement}
+use Rattle.types.proofs.codes.kind_from.Tie as tie
 
 returns : tie.Need-returns
 returns c = simp (eq-eqb _ _ (c .if1 .taken))

@@ -1,6 +1,6 @@
 use borrow.Author.Needs.{needs}
-use Rattle.types.proofs.mount_number.Statement.{statement}
-use Rattle.types.proofs.mount_number.Tie as tie
+use Rattle.types.proofs.answers.mount_number.Statement.{statement}
+use Rattle.types.proofs.answers.mount_number.Tie as tie
 
 enum-known-a : tie.Need-enum-known-a
 enum-known-a c = search needs
