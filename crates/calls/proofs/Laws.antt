@@ -1,340 +1,51 @@
--- What the shared checks tell: a law out of each and a law into it. Whoever uses these opens none of the chains.
+-- A call that issues a command reached its file, with nothing outstanding, and its row's answer is the command, and the other way round;
+-- and no call changes what the mount fixes.
 -- Assumes nothing.
-use Prim.Native.Nat.{ℕ, _+_, _/_, _%_, _^_, _≤_, _<_}
+use Prim.Native.Nat.{ℕ}
 use native.Mathlib.Omega.{arith}
-use mathlib.Core.Path.{_≡_, refl, sym}
-use mathlib.Core.Bool.{Bool, true, false, not, _&&_, _||_, cond, false≢true}
+use mathlib.Core.Path.{_≡_, refl, ap}
 use mathlib.Core.List.{List}
-use lib.ListN.{length}
-use lib.Dec.{leb, ltb, eqb}
-use borrow.Author.Tests.{leb-true, ltb-true, ltb-false, eqb-true, le-leb, lt-ltb, eq-eqb}
-use Rattle.types.specs.declared.Volume.{Volume}
 use Rattle.types.specs.declared.Mount.{Mount}
 use Rattle.types.specs.declared.Row.{Row}
 use Rattle.types.specs.declared.Call.{Call}
 use Rattle.types.specs.declared.Command.{Command}
 use Rattle.types.specs.declared.FileKind.{FileKind}
-use Rattle.types.specs.declared.FileKind.the-variants.{Conventional, Sequential}
-use Rattle.types.specs.declared.Condition.{Condition}
-use Rattle.types.specs.declared.Condition.the-variants as condition
-use Rattle.types.specs.declared.Access.{Access}
-use Rattle.types.specs.declared.Access.the-variants as access
-use Rattle.types.specs.declared.Refusal.{Refusal}
-use Rattle.types.specs.declared.Refusal.the-variants as refusal
 use Rattle.types.specs.declared.Answer.{Answer}
-use Rattle.types.specs.declared.Answer.the-variants.{Refused, Issue}
-use Rattle.types.specs.declared.Outstanding.{Outstanding}
-use Rattle.types.specs.declared.Outstanding.the-variants.{Idle, Busy}
-use Rattle.types.specs.Blocks.{sectorBytes, blockSectors, goodBlock, onBlock, mostFiles}
-use Rattle.types.specs.Kinds.{ofKind, filesOf}
-use Rattle.types.proofs.Tests.{both, and-left, and-right, means-in, means-out}
-use Rattle.types.proofs.Blocks.{IsBlock, small, large, is-block}
-use Rattle.table.specs.declared.Slot.{Slot}
-use Rattle.table.specs.declared.Slot.the-variants as slot
-use Rattle.table.specs.Rows.{rowsLent, rowAt}
-use Rattle.calls.specs.declared.Lookup.{Lookup}
-use Rattle.calls.specs.declared.Lookup.the-variants as lookup
-use Rattle.calls.specs.declared.Checked.{Checked}
-use Rattle.calls.specs.declared.Checked.the-variants as checked
-use Rattle.calls.specs.Checks.{filesFit, countsFit, rowIn, lookupOf, means, isConventional, isReadOnly, isOffline, isNone, isWrite, allowed, full, soundRow, soundSlot, foundRow, fileOf, isBusy}
-use Rattle.calls.specs.Calls.{refuse, atOnce, answerOf, onFile, answered}
-use Rattle.calls.specs.Told.{Sound, Reached, Passed}
-
--- 10 (COUNTS)
-
-module _ (v : Volume) (c s : ℕ) (h : countsFit v c s ≡ true) where
-  pub counts-good : goodBlock (v .block) ≡ true
-  unfolding countsFit
-  counts-good = and-right (filesFit (v .conventional) c && filesFit (v .sequential) s) _ h
-
-  pub counts-block : IsBlock (v .block)
-  unfolding countsFit
-  counts-block = is-block (v .block) (counts-good)
-
-  pub counts-files : (k : FileKind) → filesFit (filesOf k v) (ofKind k c s) ≡ true
-  unfolding countsFit
-  counts-files Conventional = and-left _ (filesFit (v .sequential) s) (and-left _ (goodBlock (v .block)) h)
-  counts-files Sequential = and-right (filesFit (v .conventional) c) _ (and-left _ (goodBlock (v .block)) h)
-
-  pub counts-lent : (k : FileKind) → filesOf k v ≤ rowsLent (ofKind k c s)
-  counts-lent k = leb-true (filesOf k v) (rowsLent (ofKind k c s)) (and-left _ (leb (filesOf k v) mostFiles) (counts-files k))
-
-  pub counts-most : (k : FileKind) → filesOf k v ≤ mostFiles
-  counts-most k = leb-true (filesOf k v) mostFiles (and-right (leb (filesOf k v) (rowsLent (ofKind k c s))) _ (counts-files k))
-
--- ON A BLOCK: a block is one of two
-
--- each has a sector at least
-pub block-some : (block : ℕ) → goodBlock block ≡ true → 1 ≤ blockSectors block
-block-some block h = by (is-block block h)
-  where
-    by : {b : ℕ} → IsBlock b → 1 ≤ blockSectors b
-    by small = omega arith
-    by large = omega arith
-
-pub on-large : (block n : ℕ) → goodBlock block ≡ true → (block ≡ 512 → ⊥) → onBlock 4096 n ≡ onBlock block n
-on-large block n h other = by (is-block block h) other
-  where
-    by : {b : ℕ} → IsBlock b → (b ≡ 512 → ⊥) → onBlock 4096 n ≡ onBlock b n
-    by small other = absurd (other refl)
-    by large other = refl
-
-pub sectors-on : (block n : ℕ) → goodBlock block ≡ true → eqb block 512 || onBlock 8 n ≡ onBlock (blockSectors block) n
-sectors-on block n h = by (is-block block h)
-  where
-    by : {b : ℕ} → IsBlock b → eqb b 512 || onBlock 8 n ≡ onBlock (blockSectors b) n
-    by small = sym (eq-eqb (n % 1) 0 (omega arith))
-    by large = refl
-
--- 10 (ROW)
-
-is-offline : (c : Condition) → c ≡ condition.Offline → isOffline c ≡ true
-is-offline c e = rw e
-
-offline-is : (c : Condition) → isOffline c ≡ true → c ≡ condition.Offline
-offline-is condition.Healthy h = absurd (false≢true h)
-offline-is condition.ReadOnly h = absurd (false≢true h)
-offline-is condition.Offline h = refl
-
-readonly-is : (c : Condition) → isReadOnly c ≡ true → c ≡ condition.ReadOnly
-readonly-is condition.Healthy h = absurd (false≢true h)
-readonly-is condition.ReadOnly h = refl
-readonly-is condition.Offline h = absurd (false≢true h)
-
-none-is : (a : Access) → isNone a ≡ true → a ≡ access.Nothing
-none-is access.Nothing h = refl
-none-is access.Read h = absurd (false≢true h)
-none-is access.Write h = absurd (false≢true h)
-
-some-is : (a : Access) → (a ≡ access.Nothing → ⊥) → not (isNone a) ≡ true
-some-is access.Nothing h = absurd (h refl)
-some-is access.Read h = refl
-some-is access.Write h = refl
-
-is-none : (a : Access) → a ≡ access.Nothing → isNone a ≡ true
-is-none a e = rw e
-
-not-none : (a : Access) → not (isNone a) ≡ true → a ≡ access.Nothing → ⊥
-not-none a h e = false≢true (rw e at h)
-
-not-write : (a : Access) → not (isWrite a) ≡ true → a ≡ access.Write → ⊥
-not-write a h e = false≢true (rw e at h)
-
-unwritten : (a : Access) → (a ≡ access.Write → ⊥) → not (isWrite a) ≡ true
-unwritten access.Nothing h = refl
-unwritten access.Read h = refl
-unwritten access.Write h = absurd (h refl)
-
-is-conventional : (k : FileKind) → k ≡ Conventional → isConventional k ≡ true
-is-conventional k e = rw e
-
-conventional-is : (k : FileKind) → isConventional k ≡ true → k ≡ Conventional
-conventional-is Conventional h = refl
-conventional-is Sequential h = absurd (false≢true h)
-
--- what each access allows
-and-true : (b : Bool) → b ≡ b && true
-and-true true = refl
-and-true false = refl
-
-pub allowed-none : (c : Condition) (size : ℕ) → eqb size 0 ≡ allowed c access.Nothing size
-allowed-none condition.Healthy size = and-true (eqb size 0)
-allowed-none condition.ReadOnly size = and-true (eqb size 0)
-allowed-none condition.Offline size = and-true (eqb size 0)
-
-pub allowed-read : (c : Condition) (size : ℕ) → not (isOffline c) ≡ allowed c access.Read size
-allowed-read condition.Healthy size = refl
-allowed-read condition.ReadOnly size = refl
-allowed-read condition.Offline size = refl
-
-pub allowed-write : (c : Condition) (size : ℕ) → not (isOffline c) && not (isReadOnly c) ≡ allowed c access.Write size
-allowed-write condition.Healthy size = refl
-allowed-write condition.ReadOnly size = refl
-allowed-write condition.Offline size = refl
-
--- a conventional file without access, or a full one
-pub full-conventional : (a : Access) (size capacity : ℕ) → isNone a || eqb size capacity ≡ full Conventional a size capacity
-full-conventional access.Nothing size capacity = refl
-full-conventional access.Read size capacity = refl
-full-conventional access.Write size capacity = refl
-
-module _ (block : ℕ) (k : FileKind) (r : Row) where
-  pub sound-row : soundRow block k r ≡ true → Sound block k r
-  unfolding soundRow
-  sound-row h =
-      let a1 : ltb 0 (r .start) ≡ true = search (and-left, and-right) depth 12 in
-      let a2 : onBlock (blockSectors block) (r .start) ≡ true = search (and-left, and-right) depth 12 in
-      let a3 : ltb 0 (r .capacity) ≡ true = search (and-left, and-right) depth 12 in
-      let a4 : onBlock block (r .capacity) ≡ true = search (and-left, and-right) depth 12 in
-      let a5 : leb (r .start + r .capacity / sectorBytes) (2 ^ 40) ≡ true = search (and-left, and-right) depth 12 in
-      let a6 : onBlock block (r .size) ≡ true = search (and-left, and-right) depth 12 in
-      let a7 : leb (r .size) (r .capacity) ≡ true = search (and-left, and-right) depth 12 in
-      let b1 : means (isOffline (r .condition)) (isNone (r .access)) ≡ true = search (and-left, and-right) depth 12 in
-      let b2 : means (isNone (r .access)) (eqb (r .size) 0) ≡ true = search (and-left, and-right) depth 12 in
-      let b3 : means (isReadOnly (r .condition)) (not (isWrite (r .access))) ≡ true = search (and-left, and-right) depth 12 in
-      let b4 : full k (r .access) (r .size) (r .capacity) ≡ true = search (and-left, and-right) depth 12 in
-      record {
-        started = ltb-true 0 (r .start) a1;
-        aligned = eqb-true _ 0 a2;
-        roomy = ltb-true 0 (r .capacity) a3;
-        whole = eqb-true _ 0 a4;
-        ends = leb-true (r .start + r .capacity / sectorBytes) (2 ^ 40) a5;
-        blocks = eqb-true _ 0 a6;
-        within = leb-true (r .size) (r .capacity) a7;
-        offline = λ e. none-is (r .access) (means-out (isOffline (r .condition)) _ b1 (is-offline (r .condition) e));
-        none = λ e. eqb-true (r .size) 0 (means-out (isNone (r .access)) _ b2 (rw e));
-        readonly = λ e. not-write (r .access) (means-out (isReadOnly (r .condition)) _ b3 (rw e));
-        full = λ e n. eqb-true (r .size) (r .capacity) (means-out (isConventional k && not (isNone (r .access))) _ b4 (both (is-conventional k e) (some-is (r .access) n)));
-      }
-
-  pub row-sound : Sound block k r → soundRow block k r ≡ true
-  unfolding soundRow
-  row-sound h =
-      both
-      (both
-      (both
-      (both
-      (both (both (lt-ltb 0 (r .start) (h .started)) (eq-eqb (r .start % blockSectors block) 0 (h .aligned)))
-      (both (lt-ltb 0 (r .capacity) (h .roomy)) (eq-eqb (r .capacity % block) 0 (h .whole))))
-      (le-leb (r .start + r .capacity / sectorBytes) (2 ^ 40) (h .ends)))
-      (both (eq-eqb (r .size % block) 0 (h .blocks)) (le-leb (r .size) (r .capacity) (h .within))))
-      (both
-      (both (means-in (isOffline (r .condition)) (isNone (r .access)) (λ e. is-none (r .access) (h .offline (offline-is (r .condition) e))))
-      (means-in (isNone (r .access)) (eqb (r .size) 0) (λ e. eq-eqb (r .size) 0 (h .none (none-is (r .access) e)))))
-      (means-in (isReadOnly (r .condition)) (not (isWrite (r .access))) (λ e. unwritten (r .access) (h .readonly (readonly-is (r .condition) e))))))
-      (means-in (isConventional k && not (isNone (r .access))) (eqb (r .size) (r .capacity))
-      (λ e. eq-eqb (r .size) (r .capacity)
-      (h .full (conventional-is k (and-left _ (not (isNone (r .access))) e)) (not-none (r .access) (and-right (isConventional k) _ e)))))
-
--- 10 (COUNTS), 1, 10 (ROW)
-
-in-table : (t : List ℕ) (n i : ℕ) (x : Slot) → rowIn t n i ≡ lookup.Found x → (i < n) × (rowAt t i ≡ x)
-in-table t n i x h = by (ltb i n) (rowAt t i) refl h
-  where
-    by : (b : Bool) (y : Slot) → ltb i n ≡ b → cond b (lookup.Found y) lookup.Nothing ≡ lookup.Found x → (i < n) × (y ≡ x)
-    by true y e q = (ltb-true i n e, cc)
-    by false y e q = let z : _≡_ {A = ℕ} 0 1 = cc in absurd (omega arith)
-
-not-in-table : (t : List ℕ) (n i : ℕ) → rowIn t n i ≡ lookup.Nothing → n ≤ i
-not-in-table t n i h = by (ltb i n) refl h
-  where
-    by : (b : Bool) → ltb i n ≡ b → cond b (lookup.Found (rowAt t i)) lookup.Nothing ≡ lookup.Nothing → n ≤ i
-    by true e q = let z : _≡_ {A = ℕ} 0 1 = cc in absurd (omega arith)
-    by false e q = ltb-false i n e
-
-module _ (v : Volume) (cnv seq : List ℕ) (k : FileKind) (i : ℕ) where
-  pub lookup-some : (x : Slot) → lookupOf v cnv seq k i ≡ lookup.Found x → i < filesOf k v
-  unfolding lookupOf
-  lookup-some x e = in-table (ofKind k cnv seq) (filesOf k v) i x e .0
-
-  pub lookup-none : lookupOf v cnv seq k i ≡ lookup.Nothing → filesOf k v ≤ i
-  unfolding lookupOf
-  lookup-none e = not-in-table (ofKind k cnv seq) (filesOf k v) i e
-
-module _ (v : Volume) (cnv seq : List ℕ) (k : FileKind) (i : ℕ) (r : Row) where
-  -- a row that is found and sound
-  pub reached : countsFit v (length cnv) (length seq) ≡ true → lookupOf v cnv seq k i ≡ lookup.Found (slot.Good r) → soundRow (v .block) k r ≡ true
-      → Reached v cnv seq k i r
-  unfolding lookupOf
-  reached h e d = let (l, q) = in-table (ofKind k cnv seq) (filesOf k v) i (slot.Good r) e in record { counts = h; number = l; row = q; sound = d }
-
-  pub file-reached : fileOf v cnv seq k i ≡ checked.Good r → Reached v cnv seq k i r
-  unfolding fileOf
-  file-reached e = counted (countsFit v (length cnv) (length seq)) refl e
-    where
-      sounded : (y : Row) (t : Bool) → soundRow (v .block) k y ≡ t → countsFit v (length cnv) (length seq) ≡ true → lookupOf v cnv seq k i ≡ lookup.Found (slot.Good y)
-          → cond t (checked.Good y) (checked.Refused refusal.Impossible) ≡ checked.Good r → Reached v cnv seq k i r
-      sounded y true d h f e = let q : y ≡ r = cc in reached h (rw q at f) (rw q at d)
-      sounded y false d h f e = let z : _≡_ {A = ℕ} 0 1 = cc in absurd (omega arith)
-
-      looked : (x : Lookup) → countsFit v (length cnv) (length seq) ≡ true → lookupOf v cnv seq k i ≡ x → foundRow (v .block) k x ≡ checked.Good r → Reached v cnv seq k i r
-      looked (lookup.Found (slot.Good y)) h f e = sounded y (soundRow (v .block) k y) refl h f e
-      looked (lookup.Found slot.Impossible) h f e = let z : _≡_ {A = ℕ} 0 1 = cc in absurd (omega arith)
-      looked lookup.Nothing h f e = let z : _≡_ {A = ℕ} 0 1 = cc in absurd (omega arith)
-
-      counted : (t : Bool) → countsFit v (length cnv) (length seq) ≡ t
-          → cond t (foundRow (v .block) k (lookupOf v cnv seq k i)) (checked.Refused refusal.Impossible) ≡ checked.Good r → Reached v cnv seq k i r
-      counted true h e = looked (lookupOf v cnv seq k i) h refl e
-      counted false h e = let z : _≡_ {A = ℕ} 0 1 = cc in absurd (omega arith)
-
-  pub reached-file : Reached v cnv seq k i r → fileOf v cnv seq k i ≡ checked.Good r
-  unfolding fileOf lookupOf
-  reached-file w = simp (w .counts, lt-ltb i (filesOf k v) (w .number), w .row, w .sound)
-
-  -- its row is lent
-  pub reached-lent : Reached v cnv seq k i r → i < rowsLent (length (ofKind k cnv seq))
-  reached-lent w = lent k (w .number) (counts-lent v (length cnv) (length seq) (w .counts) k)
-    where
-      lent : (k : FileKind) → i < filesOf k v → filesOf k v ≤ rowsLent (ofKind k (length cnv) (length seq)) → i < rowsLent (length (ofKind k cnv seq))
-      lent Conventional a b = omega arith
-      lent Sequential a b = omega arith
-
-  pub reached-sound : Reached v cnv seq k i r → Sound (v .block) k r
-  reached-sound w = sound-row (v .block) k r (w .sound)
-
--- in order: what the file is where a check refuses it, and past the counts and the lookup
-module _ (v : Volume) (cnv seq : List ℕ) (k : FileKind) (i : ℕ) where
-  pub file-counts : countsFit v (length cnv) (length seq) ≡ false → fileOf v cnv seq k i ≡ checked.Refused refusal.Impossible
-  unfolding fileOf
-  file-counts h = rw h
-
-  pub file-none : countsFit v (length cnv) (length seq) ≡ true → lookupOf v cnv seq k i ≡ lookup.Nothing → fileOf v cnv seq k i ≡ checked.Refused refusal.NoFile
-  unfolding fileOf
-  file-none h e = rw (h, e)
-
-  pub file-found : {x : Slot} → countsFit v (length cnv) (length seq) ≡ true → lookupOf v cnv seq k i ≡ lookup.Found x → fileOf v cnv seq k i ≡ soundSlot (v .block) k x
-  unfolding fileOf
-  file-found h e = rw (h, e)
-
--- A CHAIN OF CHECKS: an answer that is a command passed each.
-
-pub passed : {t : Bool} (x : Refusal) {rest : Answer} {c : Command} → refuse t x rest ≡ Issue c → (t ≡ false) × (rest ≡ Issue c)
-unfolding refuse
-passed {t} x {rest} {c} e = by t e
-  where
-    by : (t : Bool) → refuse t x rest ≡ Issue c → (t ≡ false) × (rest ≡ Issue c)
-    by true e = (cc, cc)
-    by false e = (refl, e)
-
-pub not-done : {t : Bool} {rest : Answer} {c : Command} → atOnce t rest ≡ Issue c → (t ≡ false) × (rest ≡ Issue c)
-unfolding atOnce
-not-done {t} {rest} {c} e = by t e
-  where
-    by : (t : Bool) → atOnce t rest ≡ Issue c → (t ≡ false) × (rest ≡ Issue c)
-    by true e = (cc, cc)
-    by false e = (refl, e)
-
--- and the other way round
-pub passes : {t : Bool} (x : Refusal) {rest y : Answer} → t ≡ false → rest ≡ y → refuse t x rest ≡ y
-unfolding refuse
-passes x e g = rw e g
-
-pub goes-on : {t : Bool} {rest y : Answer} → t ≡ false → rest ≡ y → atOnce t rest ≡ y
-unfolding atOnce
-goes-on e g = rw e g
-
-pub issued : {c d : Command} → Issue d ≡ Issue c → d ≡ c
-issued e = cc
-
--- A CALL that issues a command reached its file, with nothing outstanding, and its row's answer is the command; and the other way round.
-
-idle-is : (o : Outstanding) → isBusy o ≡ false → o ≡ Idle
-idle-is Idle h = refl
-idle-is (Busy x) h = absurd (false≢true (sym h))
-
-is-idle : (o : Outstanding) → o ≡ Idle → isBusy o ≡ false
-is-idle o e = rw e
+use Rattle.types.specs.declared.Answer.the-variants.{Refused, Done, Issue}
+use Rattle.types.specs.Predicates.{isBusy}
+use Rattle.types.proofs.PredicateLaws.{idle-is}
+use Rattle.types.proofs.VerdictLaws.{check-passed, check-passes, after-passed, after-passes}
+use Rattle.checks.specs.declared.Checked.{Checked}
+use Rattle.checks.specs.declared.Checked.the-variants as checked
+use Rattle.checks.specs.Checks.{fileOf}
+use Rattle.checks.proofs.Laws.{file-reached, reached-file}
+use Rattle.decision.specs.Decision.{dispatched}
+use Rattle.calls.specs.Calls.{onFile, answered, settled, outcomeOf}
+use Rattle.calls.specs.Facts.{Admitted}
 
 module _ (m : Mount) (cnv seq : List ℕ) (k : FileKind) (i : ℕ) (x : Call) where
-  pub call-passed : (c : Command) → answered m cnv seq k i x ≡ Issue c → (r : Row) × (Passed m cnv seq k i r × (answerOf m k r x ≡ Issue c))
+  pub call-passed : (c : Command) → answered m cnv seq k i x ≡ Issue c
+      → (r : Row) × (Admitted m cnv seq k i r × (dispatched (m .readonly) (m .volume .block) k r x ≡ Issue c))
   call-passed c e = by (fileOf (m .volume) cnv seq k i) refl e
     where
-      by : (f : Checked) → fileOf (m .volume) cnv seq k i ≡ f → onFile m k f x ≡ Issue c → (r : Row) × (Passed m cnv seq k i r × (answerOf m k r x ≡ Issue c))
+      by : (f : Checked) → fileOf (m .volume) cnv seq k i ≡ f → onFile m k f x ≡ Issue c
+          → (r : Row) × (Admitted m cnv seq k i r × (dispatched (m .readonly) (m .volume .block) k r x ≡ Issue c))
       by (checked.Good r) f e =
-          let (b, g) = passed _ e in
+          let (v, g) = after-passed _ e in
+          let (b, p) = check-passed _ v in
           (r, (record { reached = file-reached (m .volume) cnv seq k i r f; idle = idle-is (m .outstanding) b }, g))
       by (checked.Refused y) f e = let z : _≡_ {A = ℕ} 0 1 = cc in absurd (omega arith)
 
   -- past the shared checks, a call answers as its row says
-  pub call-passes : (r : Row) → Passed m cnv seq k i r → answered m cnv seq k i x ≡ answerOf m k r x
-  call-passes r w = rw (reached-file (m .volume) cnv seq k i r (w .reached)) (passes _ (is-idle (m .outstanding) (w .idle)) refl)
+  pub call-passes : (r : Row) → Admitted m cnv seq k i r → answered m cnv seq k i x ≡ dispatched (m .readonly) (m .volume .block) k r x
+  call-passes r w =
+      rw (reached-file (m .volume) cnv seq k i r (w .reached)) (after-passes (check-passes _ (ap isBusy (w .idle)) refl))
+
+-- WHAT THE MOUNT FIXES stays, whatever the answer is.
+settled-fixes : (m : Mount) (k : FileKind) (i : ℕ) (a : Answer) → settled m k i a .mount .volume ≡ m .volume
+settled-fixes m k i (Refused x) = refl
+settled-fixes m k i (Done count) = refl
+settled-fixes m k i (Issue c) = refl
+
+pub outcome-fixes : (m : Mount) (cnv seq : List ℕ) (k : FileKind) (i : ℕ) (x : Call) → outcomeOf m cnv seq k i x .mount .volume ≡ m .volume
+outcome-fixes m cnv seq k i x = settled-fixes m k i (answered m cnv seq k i x)

@@ -1,5 +1,2 @@
 pub mod Calls
-pub mod Checks
-pub mod Find
-pub mod Show
-pub mod Told
+pub mod Facts

@@ -5,24 +5,22 @@ use mathlib.Core.Bool.{Bool, cond, _&&_}
 use lib.ListN.{length}
 use lib.Dec.{leb}
 use Rattle.types.specs.declared.Mount.{Mount}
+use Rattle.types.specs.declared.FileKind.the-variants.{Conventional, Sequential}
 use Rattle.types.specs.declared.Refusal.the-variants.{Impossible}
 use Rattle.types.specs.declared.Call.{Call}
 use Rattle.types.specs.declared.Outcome.{Outcome}
 use Rattle.types.specs.declared.MountAnswer.{MountAnswer}
 use Rattle.types.specs.declared.FindAnswer.{FindAnswer}
 use Rattle.types.specs.declared.ShowAnswer.{ShowAnswer}
-use Rattle.types.specs.declared.ShowAnswer.the-variants as show
-use Rattle.types.specs.Codes.{kindFrom}
 use Rattle.types.specs.Numbers.{refusalNumber, answerNumber, answerValues, mountNumber, mountValues, findNumber, findValues, showNumber, showValues}
-use Rattle.mount.specs.Mount.{mountOutcome}
-use Rattle.calls.specs.Find.{findOf}
-use Rattle.calls.specs.Show.{showOf}
-use Rattle.calls.specs.Calls.{isKind, noKind, outcomeBy}
-use Rattle.completion.specs.declared.Store.{Store}
-use Rattle.completion.specs.declared.Store.the-variants as store
-use Rattle.completion.specs.Completions.{Completion, digestOf}
-use Rattle.words.specs.Answers.{answerLength, answerWords}
-use Rattle.words.specs.Words.{mountLength, mountWords, written, withState, possible, mountFrom}
+use Rattle.mount.specs.Mount.{Mounting, mountOutcome}
+use Rattle.inspect.specs.Find.{findOf}
+use Rattle.inspect.specs.Show.{showBy}
+use Rattle.calls.specs.Calls.{outcomeBy}
+use Rattle.completion.specs.declared.Effect.{Effect}
+use Rattle.completion.specs.Completions.{Completion, effectOf, stored}
+use Rattle.answer_words.specs.Answers.{answerLength, answerWords, written}
+use Rattle.mount_words.specs.Words.{mountLength, mountWords, withState, possible, mountFrom}
 
 -- ---- what a function that is lent a mount's words and an answer's gives: the number that it returns, and both after it
 
@@ -53,13 +51,23 @@ callWords w cnv seq kind i x a =
 
 -- ---- completions
 
-unfoldable pub completionWords : List ℕ → List ℕ → List ℕ → Completion → List ℕ → Given
-completionWords w cnv seq x a =
-    cond (usable w (length a)) (told w a (digestOf (mountFrom w) cnv seq x .outcome)) (unwritten w a)
+-- what a function that is lent both tables to change gives: these after it, too
+pub record Changed : Type 0 where
+  pub number : ℕ
+  pub mount : List ℕ
+  pub cnv : List ℕ
+  pub seq : List ℕ
+  pub answer : List ℕ
 
--- what is stored in a table
-unfoldable pub completionStore : List ℕ → List ℕ → List ℕ → Completion → ℕ → Store
-completionStore w cnv seq x room = cond (usable w room) (digestOf (mountFrom w) cnv seq x .store) store.Nothing
+abbrev pub withTables : List ℕ → List ℕ → Given → Changed
+withTables cnv seq g = record { number = g .number; mount = g .mount; cnv = cnv; seq = seq; answer = g .answer }
+
+abbrev pub changedBy : List ℕ → List ℕ → List ℕ → List ℕ → Effect → Changed
+changedBy w cnv seq a e = withTables (stored Conventional (e .store) cnv) (stored Sequential (e .store) seq) (told w a (e .outcome))
+
+unfoldable pub completionWords : List ℕ → List ℕ → List ℕ → Completion → List ℕ → Changed
+completionWords w cnv seq x a =
+    cond (usable w (length a)) (changedBy w cnv seq a (effectOf (mountFrom w) cnv seq x)) (withTables cnv seq (unwritten w a))
 
 -- ---- finding and showing: the mount's words are only read
 
@@ -79,13 +87,8 @@ findWords w cnv seq name a = cond (usable w (length a)) (toldFound a (findOf (mo
 abbrev pub toldShown : List ℕ → ShowAnswer → Reply
 toldShown a x = record { number = showNumber x; answer = written a (answerWords (showValues x)) }
 
--- "a kind above 1 answers 1"
-unfoldable pub showAnswer : Mount → List ℕ → List ℕ → ℕ → ℕ → ShowAnswer
-showAnswer m cnv seq kind i =
-    cond (isKind kind) (showOf m cnv seq (kindFrom kind) i) (show.Refused (noKind (m .volume) (length cnv) (length seq)))
-
 unfoldable pub showWords : List ℕ → List ℕ → List ℕ → ℕ → ℕ → List ℕ → Reply
-showWords w cnv seq kind i a = cond (usable w (length a)) (toldShown a (showAnswer (mountFrom w) cnv seq kind i)) (silent a)
+showWords w cnv seq kind i a = cond (usable w (length a)) (toldShown a (showBy (mountFrom w) cnv seq kind i)) (silent a)
 
 -- ---- mounting: the mount's words are only written, so that it is enough that they are long enough
 
@@ -96,16 +99,9 @@ abbrev pub toldMounted : List ℕ → List ℕ → MountAnswer → Mount → Giv
 toldMounted w a x m =
     record { number = mountNumber x; mount = written w (mountWords m); answer = written a (answerWords (mountValues x)) }
 
-module _ (block : ℕ) (superblock options report cnv seq w a : List ℕ) where
-  unfoldable pub mountGiven : Given
-  mountGiven =
-      cond (roomy (length w) (length a))
-      (toldMounted w a (mountOutcome block superblock options report cnv seq .answer) (mountOutcome block superblock options report cnv seq .mount))
-      (unwritten w a)
+abbrev pub changedByMount : List ℕ → List ℕ → Mounting → Changed
+changedByMount w a o = withTables (o .cnv) (o .seq) (toldMounted w a (o .answer) (o .mount))
 
-  -- the tables after it
-  unfoldable pub mountCnv : List ℕ
-  mountCnv = cond (roomy (length w) (length a)) (mountOutcome block superblock options report cnv seq .cnv) cnv
-
-  unfoldable pub mountSeq : List ℕ
-  mountSeq = cond (roomy (length w) (length a)) (mountOutcome block superblock options report cnv seq .seq) seq
+unfoldable pub mountGiven : ℕ → List ℕ → List ℕ → List ℕ → List ℕ → List ℕ → List ℕ → List ℕ → Changed
+mountGiven block superblock options report cnv seq w a =
+    cond (roomy (length w) (length a)) (changedByMount w a (mountOutcome block superblock options report cnv seq)) (withTables cnv seq (unwritten w a))

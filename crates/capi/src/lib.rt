@@ -6,15 +6,13 @@ ghost use Prim.Native.Nat.{_≤_};
 ghost use lib.Dec.{eqb};
 ghost use lib.ListN.{length};
 ghost use Rattle.types.specs.declared.Call.{Call};
-ghost use Rattle.types.specs.declared.FileKind.the-variants as files;
-ghost use Rattle.completion.specs.Completions.{Completion, completionOf, completionBy, stored};
-ghost use Rattle.words.specs.Words.{mountLength};
-ghost use Rattle.words.specs.Answers.{answerLength};
-ghost use Rattle.capi.specs.Interface.{Given, told, usable, callWords, completionWords, completionStore, toldFound, findWords, toldShown, showAnswer, showWords, roomy, toldMounted, mountGiven, mountCnv, mountSeq};
+ghost use Rattle.completion.specs.Completions.{Completion, completionOf, completionBy};
+ghost use Rattle.mount_words.specs.Words.{mountLength};
+ghost use Rattle.answer_words.specs.Answers.{answerLength};
+ghost use Rattle.capi.specs.Interface.{told, usable, callWords, completionWords, toldFound, findWords, toldShown, showWords, roomy, toldMounted, mountGiven};
 ghost use Rattle.crc32.specs.Crc.{crc32};
 use types::Call;
 use types::FindAnswer;
-use types::Mount;
 use types::MountOutcome;
 use types::Outcome;
 use types::ShowAnswer;
@@ -27,20 +25,18 @@ fn is_usable(w: &[u64], room: usize) -> bool
     ensures { λ r. ⌜ r ≡ usable (now (w .entry)) room ⌝ }
     ensures { λ r. ⌜ (r ≡ true → (mountLength ≤ length (now (w .entry))) × (answerLength ≤ room)) ⌝ }
 {
-    words::is_possible(w) & (words::answers::ANSWER_WORDS <= room)
+    mount_words::is_possible(w) & (answer_words::ANSWER_WORDS <= room)
 }
 
 // Puts an outcome into the words, and gives its number.
 fn tell(w: &mut [u64], a: &mut [u64], o: Outcome) -> u64
     requires { ⌜ (mountLength ≤ length (now w)) × (answerLength ≤ length (now a)) ⌝ }
-    ensures { λ r. ⌜ r ≡ told (now (w .entry)) (now (a .entry)) o .number ⌝ }
-    ensures { λ _. ⌜ now (w .exit) ≡ told (now (w .entry)) (now (a .entry)) o .mount ⌝ }
-    ensures { λ _. ⌜ now (a .exit) ≡ told (now (w .entry)) (now (a .entry)) o .answer ⌝ }
+    ensures { λ r. ⌜ told (now (w .entry)) (now (a .entry)) o ≡ record { number = r; mount = now (w .exit); answer = now (a .exit) } ⌝ }
 {
     let m = o.mount;
     let x = o.answer;
-    words::put_state(w, m);
-    words::answers::put_values(a, words::answers::answer_values(x));
+    mount_words::put_state(w, m);
+    answer_words::put_values(a, answer_words::answer_values(x));
     types::answers::answer_number(x)
 }
 
@@ -54,14 +50,12 @@ fn call(
     x: Call,
     a: &mut [u64],
 ) -> u64
-    ensures { λ r. ⌜ r ≡ callWords (now (w .entry)) (now (cnv .entry)) (now (seq .entry)) kind number x (now (a .entry)) .number ⌝ }
-    ensures { λ _. ⌜ now (w .exit) ≡ callWords (now (w .entry)) (now (cnv .entry)) (now (seq .entry)) kind number x (now (a .entry)) .mount ⌝ }
-    ensures { λ _. ⌜ now (a .exit) ≡ callWords (now (w .entry)) (now (cnv .entry)) (now (seq .entry)) kind number x (now (a .entry)) .answer ⌝ }
+    ensures { λ r. ⌜ callWords (now (w .entry)) (now (cnv .entry)) (now (seq .entry)) kind number x (now (a .entry)) ≡ record { number = r; mount = now (w .exit); answer = now (a .exit) } ⌝ }
 {
     if !is_usable(&w[..], a.len()) {
         return IMPOSSIBLE;
     }
-    let m = words::mount_from(&w[..]);
+    let m = mount_words::mount_from(&w[..]);
     tell(w, a, calls::call_by(m, cnv, seq, kind as u64, number, x))
 }
 
@@ -76,9 +70,7 @@ pub extern "C" fn zonefs_read(
     length: u64,
     a: &mut [u64],
 ) -> u64
-    ensures { λ r. ⌜ r ≡ callWords (now (w .entry)) (now (cnv .entry)) (now (seq .entry)) kind number (Call.Read offset length) (now (a .entry)) .number ⌝ }
-    ensures { λ _. ⌜ now (w .exit) ≡ callWords (now (w .entry)) (now (cnv .entry)) (now (seq .entry)) kind number (Call.Read offset length) (now (a .entry)) .mount ⌝ }
-    ensures { λ _. ⌜ now (a .exit) ≡ callWords (now (w .entry)) (now (cnv .entry)) (now (seq .entry)) kind number (Call.Read offset length) (now (a .entry)) .answer ⌝ }
+    ensures { λ r. ⌜ callWords (now (w .entry)) (now (cnv .entry)) (now (seq .entry)) kind number (Call.Read offset length) (now (a .entry)) ≡ record { number = r; mount = now (w .exit); answer = now (a .exit) } ⌝ }
 {
     call(w, cnv, seq, kind, number, Call::Read(offset, length), a)
 }
@@ -94,9 +86,7 @@ pub extern "C" fn zonefs_write(
     length: u64,
     a: &mut [u64],
 ) -> u64
-    ensures { λ r. ⌜ r ≡ callWords (now (w .entry)) (now (cnv .entry)) (now (seq .entry)) kind number (Call.Write offset length) (now (a .entry)) .number ⌝ }
-    ensures { λ _. ⌜ now (w .exit) ≡ callWords (now (w .entry)) (now (cnv .entry)) (now (seq .entry)) kind number (Call.Write offset length) (now (a .entry)) .mount ⌝ }
-    ensures { λ _. ⌜ now (a .exit) ≡ callWords (now (w .entry)) (now (cnv .entry)) (now (seq .entry)) kind number (Call.Write offset length) (now (a .entry)) .answer ⌝ }
+    ensures { λ r. ⌜ callWords (now (w .entry)) (now (cnv .entry)) (now (seq .entry)) kind number (Call.Write offset length) (now (a .entry)) ≡ record { number = r; mount = now (w .exit); answer = now (a .exit) } ⌝ }
 {
     call(w, cnv, seq, kind, number, Call::Write(offset, length), a)
 }
@@ -111,9 +101,7 @@ pub extern "C" fn zonefs_truncate(
     target: u64,
     a: &mut [u64],
 ) -> u64
-    ensures { λ r. ⌜ r ≡ callWords (now (w .entry)) (now (cnv .entry)) (now (seq .entry)) kind number (Call.Truncate target) (now (a .entry)) .number ⌝ }
-    ensures { λ _. ⌜ now (w .exit) ≡ callWords (now (w .entry)) (now (cnv .entry)) (now (seq .entry)) kind number (Call.Truncate target) (now (a .entry)) .mount ⌝ }
-    ensures { λ _. ⌜ now (a .exit) ≡ callWords (now (w .entry)) (now (cnv .entry)) (now (seq .entry)) kind number (Call.Truncate target) (now (a .entry)) .answer ⌝ }
+    ensures { λ r. ⌜ callWords (now (w .entry)) (now (cnv .entry)) (now (seq .entry)) kind number (Call.Truncate target) (now (a .entry)) ≡ record { number = r; mount = now (w .exit); answer = now (a .exit) } ⌝ }
 {
     call(w, cnv, seq, kind, number, Call::Truncate(target), a)
 }
@@ -127,9 +115,7 @@ pub extern "C" fn zonefs_flush(
     number: u32,
     a: &mut [u64],
 ) -> u64
-    ensures { λ r. ⌜ r ≡ callWords (now (w .entry)) (now (cnv .entry)) (now (seq .entry)) kind number Call.Flush (now (a .entry)) .number ⌝ }
-    ensures { λ _. ⌜ now (w .exit) ≡ callWords (now (w .entry)) (now (cnv .entry)) (now (seq .entry)) kind number Call.Flush (now (a .entry)) .mount ⌝ }
-    ensures { λ _. ⌜ now (a .exit) ≡ callWords (now (w .entry)) (now (cnv .entry)) (now (seq .entry)) kind number Call.Flush (now (a .entry)) .answer ⌝ }
+    ensures { λ r. ⌜ callWords (now (w .entry)) (now (cnv .entry)) (now (seq .entry)) kind number Call.Flush (now (a .entry)) ≡ record { number = r; mount = now (w .exit); answer = now (a .exit) } ⌝ }
 {
     call(w, cnv, seq, kind, number, Call::Flush, a)
 }
@@ -144,16 +130,12 @@ fn end_command(
     given: bool,
     a: &mut [u64],
 ) -> u64
-    ensures { λ r. ⌜ r ≡ completionWords (now (w .entry)) (now (cnv .entry)) (now (seq .entry)) (completionBy done given (now (bytes .entry))) (now (a .entry)) .number ⌝ }
-    ensures { λ _. ⌜ now (w .exit) ≡ completionWords (now (w .entry)) (now (cnv .entry)) (now (seq .entry)) (completionBy done given (now (bytes .entry))) (now (a .entry)) .mount ⌝ }
-    ensures { λ _. ⌜ now (cnv .exit) ≡ stored files.Conventional (completionStore (now (w .entry)) (now (cnv .entry)) (now (seq .entry)) (completionBy done given (now (bytes .entry))) (length (now (a .entry)))) (now (cnv .entry)) ⌝ }
-    ensures { λ _. ⌜ now (seq .exit) ≡ stored files.Sequential (completionStore (now (w .entry)) (now (cnv .entry)) (now (seq .entry)) (completionBy done given (now (bytes .entry))) (length (now (a .entry)))) (now (seq .entry)) ⌝ }
-    ensures { λ _. ⌜ now (a .exit) ≡ completionWords (now (w .entry)) (now (cnv .entry)) (now (seq .entry)) (completionBy done given (now (bytes .entry))) (now (a .entry)) .answer ⌝ }
+    ensures { λ r. ⌜ completionWords (now (w .entry)) (now (cnv .entry)) (now (seq .entry)) (completionBy done given (now (bytes .entry))) (now (a .entry)) ≡ record { number = r; mount = now (w .exit); cnv = now (cnv .exit); seq = now (seq .exit); answer = now (a .exit) } ⌝ }
 {
     if !is_usable(&w[..], a.len()) {
         return IMPOSSIBLE;
     }
-    let m = words::mount_from(&w[..]);
+    let m = mount_words::mount_from(&w[..]);
     tell(
         w,
         a,
@@ -169,11 +151,7 @@ pub extern "C" fn zonefs_complete(
     seq: &mut [u64],
     a: &mut [u64],
 ) -> u64
-    ensures { λ r. ⌜ r ≡ completionWords (now (w .entry)) (now (cnv .entry)) (now (seq .entry)) Completion.good (now (a .entry)) .number ⌝ }
-    ensures { λ _. ⌜ now (w .exit) ≡ completionWords (now (w .entry)) (now (cnv .entry)) (now (seq .entry)) Completion.good (now (a .entry)) .mount ⌝ }
-    ensures { λ _. ⌜ now (cnv .exit) ≡ stored files.Conventional (completionStore (now (w .entry)) (now (cnv .entry)) (now (seq .entry)) Completion.good (length (now (a .entry)))) (now (cnv .entry)) ⌝ }
-    ensures { λ _. ⌜ now (seq .exit) ≡ stored files.Sequential (completionStore (now (w .entry)) (now (cnv .entry)) (now (seq .entry)) Completion.good (length (now (a .entry)))) (now (seq .entry)) ⌝ }
-    ensures { λ _. ⌜ now (a .exit) ≡ completionWords (now (w .entry)) (now (cnv .entry)) (now (seq .entry)) Completion.good (now (a .entry)) .answer ⌝ }
+    ensures { λ r. ⌜ completionWords (now (w .entry)) (now (cnv .entry)) (now (seq .entry)) Completion.good (now (a .entry)) ≡ record { number = r; mount = now (w .exit); cnv = now (cnv .exit); seq = now (seq .exit); answer = now (a .exit) } ⌝ }
 {
     end_command(w, cnv, seq, true, b"", false, a)
 }
@@ -188,11 +166,7 @@ pub extern "C" fn zonefs_fail(
     given: u32,
     a: &mut [u64],
 ) -> u64
-    ensures { λ r. ⌜ r ≡ completionWords (now (w .entry)) (now (cnv .entry)) (now (seq .entry)) (completionOf (not (eqb given 0)) (now (bytes .entry))) (now (a .entry)) .number ⌝ }
-    ensures { λ _. ⌜ now (w .exit) ≡ completionWords (now (w .entry)) (now (cnv .entry)) (now (seq .entry)) (completionOf (not (eqb given 0)) (now (bytes .entry))) (now (a .entry)) .mount ⌝ }
-    ensures { λ _. ⌜ now (cnv .exit) ≡ stored files.Conventional (completionStore (now (w .entry)) (now (cnv .entry)) (now (seq .entry)) (completionOf (not (eqb given 0)) (now (bytes .entry))) (length (now (a .entry)))) (now (cnv .entry)) ⌝ }
-    ensures { λ _. ⌜ now (seq .exit) ≡ stored files.Sequential (completionStore (now (w .entry)) (now (cnv .entry)) (now (seq .entry)) (completionOf (not (eqb given 0)) (now (bytes .entry))) (length (now (a .entry)))) (now (seq .entry)) ⌝ }
-    ensures { λ _. ⌜ now (a .exit) ≡ completionWords (now (w .entry)) (now (cnv .entry)) (now (seq .entry)) (completionOf (not (eqb given 0)) (now (bytes .entry))) (now (a .entry)) .answer ⌝ }
+    ensures { λ r. ⌜ completionWords (now (w .entry)) (now (cnv .entry)) (now (seq .entry)) (completionOf (not (eqb given 0)) (now (bytes .entry))) (now (a .entry)) ≡ record { number = r; mount = now (w .exit); cnv = now (cnv .exit); seq = now (seq .exit); answer = now (a .exit) } ⌝ }
 {
     end_command(w, cnv, seq, false, bytes, given != 0, a)
 }
@@ -202,19 +176,17 @@ fn is_roomy(w: usize, a: usize) -> bool
     ensures { λ r. ⌜ r ≡ roomy w a ⌝ }
     ensures { λ r. ⌜ (r ≡ true → (mountLength ≤ w) × (answerLength ≤ a)) ⌝ }
 {
-    (words::MOUNT_WORDS <= w) & (words::answers::ANSWER_WORDS <= a)
+    (mount_words::MOUNT_WORDS <= w) & (answer_words::ANSWER_WORDS <= a)
 }
 
 fn tell_mounted(w: &mut [u64], a: &mut [u64], o: MountOutcome) -> u64
     requires { ⌜ (mountLength ≤ length (now w)) × (answerLength ≤ length (now a)) ⌝ }
-    ensures { λ r. ⌜ r ≡ toldMounted (now (w .entry)) (now (a .entry)) (o .answer) (o .mount) .number ⌝ }
-    ensures { λ _. ⌜ now (w .exit) ≡ toldMounted (now (w .entry)) (now (a .entry)) (o .answer) (o .mount) .mount ⌝ }
-    ensures { λ _. ⌜ now (a .exit) ≡ toldMounted (now (w .entry)) (now (a .entry)) (o .answer) (o .mount) .answer ⌝ }
+    ensures { λ r. ⌜ toldMounted (now (w .entry)) (now (a .entry)) (o .answer) (o .mount) ≡ record { number = r; mount = now (w .exit); answer = now (a .exit) } ⌝ }
 {
     let m = o.mount;
     let x = o.answer;
-    words::put_mount(w, m);
-    words::answers::put_values(a, words::answers::mount_values(x));
+    mount_words::put_mount(w, m);
+    answer_words::put_values(a, answer_words::mount_values(x));
     types::answers::mount_number(x)
 }
 
@@ -230,11 +202,7 @@ pub extern "C" fn zonefs_mount(
     w: &mut [u64],
     a: &mut [u64],
 ) -> u64
-    ensures { λ r. ⌜ r ≡ mountGiven block (now (superblock .entry)) (now (options .entry)) (now (report .entry)) (now (cnv .entry)) (now (seq .entry)) (now (w .entry)) (now (a .entry)) .number ⌝ }
-    ensures { λ _. ⌜ now (cnv .exit) ≡ mountCnv block (now (superblock .entry)) (now (options .entry)) (now (report .entry)) (now (cnv .entry)) (now (seq .entry)) (now (w .entry)) (now (a .entry)) ⌝ }
-    ensures { λ _. ⌜ now (seq .exit) ≡ mountSeq block (now (superblock .entry)) (now (options .entry)) (now (report .entry)) (now (cnv .entry)) (now (seq .entry)) (now (w .entry)) (now (a .entry)) ⌝ }
-    ensures { λ _. ⌜ now (w .exit) ≡ mountGiven block (now (superblock .entry)) (now (options .entry)) (now (report .entry)) (now (cnv .entry)) (now (seq .entry)) (now (w .entry)) (now (a .entry)) .mount ⌝ }
-    ensures { λ _. ⌜ now (a .exit) ≡ mountGiven block (now (superblock .entry)) (now (options .entry)) (now (report .entry)) (now (cnv .entry)) (now (seq .entry)) (now (w .entry)) (now (a .entry)) .answer ⌝ }
+    ensures { λ r. ⌜ mountGiven block (now (superblock .entry)) (now (options .entry)) (now (report .entry)) (now (cnv .entry)) (now (seq .entry)) (now (w .entry)) (now (a .entry)) ≡ record { number = r; mount = now (w .exit); cnv = now (cnv .exit); seq = now (seq .exit); answer = now (a .exit) } ⌝ }
 {
     if !is_roomy(w.len(), a.len()) {
         return IMPOSSIBLE;
@@ -248,10 +216,9 @@ pub extern "C" fn zonefs_mount(
 
 fn tell_found(a: &mut [u64], x: FindAnswer) -> u64
     requires { ⌜ answerLength ≤ length (now a) ⌝ }
-    ensures { λ r. ⌜ r ≡ toldFound (now (a .entry)) x .number ⌝ }
-    ensures { λ _. ⌜ now (a .exit) ≡ toldFound (now (a .entry)) x .answer ⌝ }
+    ensures { λ r. ⌜ toldFound (now (a .entry)) x ≡ record { number = r; answer = now (a .exit) } ⌝ }
 {
-    words::answers::put_values(a, words::answers::find_values(x));
+    answer_words::put_values(a, answer_words::find_values(x));
     types::answers::find_number(x)
 }
 
@@ -264,33 +231,20 @@ pub extern "C" fn zonefs_find(
     name: &[u8],
     a: &mut [u64],
 ) -> u64
-    ensures { λ r. ⌜ r ≡ findWords (now (w .entry)) (now (cnv .entry)) (now (seq .entry)) (now (name .entry)) (now (a .entry)) .number ⌝ }
-    ensures { λ _. ⌜ now (a .exit) ≡ findWords (now (w .entry)) (now (cnv .entry)) (now (seq .entry)) (now (name .entry)) (now (a .entry)) .answer ⌝ }
+    ensures { λ r. ⌜ findWords (now (w .entry)) (now (cnv .entry)) (now (seq .entry)) (now (name .entry)) (now (a .entry)) ≡ record { number = r; answer = now (a .exit) } ⌝ }
 {
     if !is_usable(w, a.len()) {
         return IMPOSSIBLE;
     }
-    let m = words::mount_from(w);
-    tell_found(a, calls::find(m, cnv, seq, name))
-}
-
-fn show_answer(m: Mount, cnv: &[u64], seq: &[u64], kind: u32, number: u32) -> ShowAnswer
-    ensures { λ r. ⌜ r ≡ showAnswer m (now (cnv .entry)) (now (seq .entry)) kind number ⌝ }
-{
-    if kind < 2 {
-        calls::show(m, cnv, seq, types::codes::kind_from(kind as u64), number)
-    } else {
-        let v = m.volume;
-        ShowAnswer::Refused(calls::no_kind(v, cnv.len(), seq.len()))
-    }
+    let m = mount_words::mount_from(w);
+    tell_found(a, inspect::find(m, cnv, seq, name))
 }
 
 fn tell_shown(a: &mut [u64], x: ShowAnswer) -> u64
     requires { ⌜ answerLength ≤ length (now a) ⌝ }
-    ensures { λ r. ⌜ r ≡ toldShown (now (a .entry)) x .number ⌝ }
-    ensures { λ _. ⌜ now (a .exit) ≡ toldShown (now (a .entry)) x .answer ⌝ }
+    ensures { λ r. ⌜ toldShown (now (a .entry)) x ≡ record { number = r; answer = now (a .exit) } ⌝ }
 {
-    words::answers::put_values(a, words::answers::show_values(x));
+    answer_words::put_values(a, answer_words::show_values(x));
     types::answers::show_number(x)
 }
 
@@ -304,14 +258,13 @@ pub extern "C" fn zonefs_show(
     number: u32,
     a: &mut [u64],
 ) -> u64
-    ensures { λ r. ⌜ r ≡ showWords (now (w .entry)) (now (cnv .entry)) (now (seq .entry)) kind number (now (a .entry)) .number ⌝ }
-    ensures { λ _. ⌜ now (a .exit) ≡ showWords (now (w .entry)) (now (cnv .entry)) (now (seq .entry)) kind number (now (a .entry)) .answer ⌝ }
+    ensures { λ r. ⌜ showWords (now (w .entry)) (now (cnv .entry)) (now (seq .entry)) kind number (now (a .entry)) ≡ record { number = r; answer = now (a .exit) } ⌝ }
 {
     if !is_usable(w, a.len()) {
         return IMPOSSIBLE;
     }
-    let m = words::mount_from(w);
-    tell_shown(a, show_answer(m, cnv, seq, kind, number))
+    let m = mount_words::mount_from(w);
+    tell_shown(a, inspect::show_by(m, cnv, seq, kind as u64, number))
 }
 
 // The checksum of bytes. A super block's is that of its bytes with the checksum field zero.

@@ -1,4 +1,2 @@
 pub mod Completions
-pub mod Grid
-pub mod Held
-pub mod Told
+pub mod Facts

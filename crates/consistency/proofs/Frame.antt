@@ -10,11 +10,8 @@ use Rattle.types.specs.declared.Mount.{Mount}
 use Rattle.types.specs.declared.Row.{Row}
 use Rattle.types.specs.declared.Held.{Held}
 use Rattle.types.specs.declared.FileKind.{FileKind}
-use Rattle.types.specs.declared.FileKind.the-variants.{Conventional, Sequential}
 use Rattle.types.specs.declared.Refusal.{Refusal}
 use Rattle.types.specs.declared.Refusal.the-variants as refusal
-use Rattle.types.specs.declared.ErrorPolicy.{ErrorPolicy}
-use Rattle.types.specs.declared.ErrorPolicy.the-variants.{RemountRo, ZoneRo, ZoneOffline, Repair}
 use Rattle.types.specs.declared.Answer.{Answer}
 use Rattle.types.specs.declared.Answer.the-variants.{Refused, Done, Issue}
 use Rattle.types.specs.declared.Outstanding.{Outstanding}
@@ -22,46 +19,56 @@ use Rattle.types.specs.declared.Outstanding.the-variants.{Busy}
 use Rattle.types.specs.Kinds.{ofKind}
 use Rattle.types.specs.Mounts.{cleared}
 use Rattle.types.specs.Numbers.{answerNumber}
+use Rattle.table.specs.Rows.{rowWidth}
 use Rattle.table.proofs.Laws.{setRow-length, word-outside}
 use Rattle.calls.specs.Calls.{settled, answered}
+use Rattle.calls.proofs.Laws.{outcome-fixes}
 use Rattle.zones.specs.declared.Zone.{Zone}
+use Rattle.recovery.specs.Fits.{recordFits}
+use Rattle.recovery.specs.Recovery.{nothingLost, recoveredRow}
 use Rattle.completion.specs.declared.Store.the-variants as store
-use Rattle.completion.specs.declared.held.Pending.{Pending}
-use Rattle.completion.specs.declared.held.Pending.the-variants as pending
-use Rattle.completion.specs.Held.{pendingOf, PendingTells}
-use Rattle.completion.specs.Completions.{Completion, good, failed, malformed, stored, refusing, succeeded, recovered, recovering, failing, markedBy, nothingLost, recoveredRow, recordFits, digested, digestPending, digestOf}
-use Rattle.completion.proofs.Laws.{pending-tells}
-use Rattle.consistency.specs.Frame.{Elsewhere, CallKeeps, CompletionKeeps, Frame}
+use Rattle.held.specs.declared.Pending.{Pending}
+use Rattle.held.specs.declared.Pending.the-variants as pending
+use Rattle.held.specs.Held.{pendingOf}
+use Rattle.held.specs.Facts.{PendingTells}
+use Rattle.held.proofs.Laws.{pending-tells}
+use Rattle.completion.specs.declared.Effect.{Effect}
+use Rattle.completion.specs.Completions.{Completion, good, failed, malformed, stored, refusing, succeeded, recovered, recovering, failing, effectOn, effectPending, effectOf}
+use Rattle.completion.proofs.Laws.{effect-fixes}
+use Rattle.consistency.specs.Frame.{Elsewhere, TableKeeps, Frame}
+use Rattle.consistency.proofs.Effects.{stored-either}
 
-call-keeps : (m : Mount) (k : FileKind) (n : ℕ) (a : Answer) → CallKeeps m (settled m k n a)
-call-keeps m k n (Refused x) = record { volume = refl; readonly = refl; refused = λ e. refl }
-call-keeps m k n (Done x) = record { volume = refl; readonly = refl; refused = λ e. refl }
-call-keeps m k n (Issue x) = record { volume = refl; readonly = refl; refused = λ e. absurd (e refl) }
+-- A CALL
+
+call-keeps : (m : Mount) (k : FileKind) (n : ℕ) (a : Answer)
+    → (settled m k n a .mount .readonly ≡ m .readonly) × (answerNumber (settled m k n a .answer) ≢ 0 → settled m k n a .mount ≡ m)
+call-keeps m k n (Refused x) = (refl, λ e. refl)
+call-keeps m k n (Done x) = (refl, λ e. refl)
+call-keeps m k n (Issue x) = (refl, λ e. absurd (e refl))
+
+-- A COMPLETION
 
 module _ (m : Mount) (cnv seq : List ℕ) where
+  -- what it keeps beside what the mount fixes
+  record Keeps (d : Effect) : Type 0 where
+    refused : answerNumber (d .outcome .answer) ≢ 0 → answerNumber (d .outcome .answer) ≢ 7 → d .outcome .mount ≡ m
+    tables : (k : FileKind) → TableKeeps m d k (ofKind k cnv seq)
+
   -- a refusal changes nothing
-  refusing-keeps : (x : Refusal) → CompletionKeeps m cnv seq (refusing m x)
-  refusing-keeps x =
-      record { volume = refl; refused = λ e f. refl; tables = λ k. record { length = refl; words = λ j e. refl; refused = λ e f. refl } }
+  refusing-keeps : (x : Refusal) → Keeps (refusing m x)
+  refusing-keeps x = record { refused = λ e f. refl; tables = λ k. record { length = refl; words = λ j e. refl; refused = λ e f. refl } }
 
   stored-length : (f : FileKind) (n : ℕ) (r : Row) (k : FileKind) (t : List ℕ) → length (stored k (store.Put f n r) t) ≡ length t
-  stored-length Conventional n r Conventional t = setRow-length t n r
-  stored-length Conventional n r Sequential t = refl
-  stored-length Sequential n r Conventional t = refl
-  stored-length Sequential n r Sequential t = setRow-length t n r
+  stored-length f n r k t = stored-either (λ u. length u ≡ length t) f n r k t (λ e. setRow-length t n r) refl
 
-  stored-words : (f : FileKind) (n : ℕ) (r : Row) (k : FileKind) (t : List ℕ) (j : ℕ) → (f ≡ k → j / 5 ≡ n → ⊥) → getD (stored k (store.Put f n r) t) j 0 ≡ getD t j 0
-  stored-words Conventional n r Conventional t j e = word-outside t n j r (e refl)
-  stored-words Conventional n r Sequential t j e = refl
-  stored-words Sequential n r Conventional t j e = refl
-  stored-words Sequential n r Sequential t j e = word-outside t n j r (e refl)
+  stored-words : (f : FileKind) (n : ℕ) (r : Row) (k : FileKind) (t : List ℕ) (j : ℕ) → (f ≡ k → j / rowWidth ≡ n → ⊥) → getD (stored k (store.Put f n r) t) j 0 ≡ getD t j 0
+  stored-words f n r k t j h = stored-either (λ u. getD u j 0 ≡ getD t j 0) f n r k t (λ e. word-outside t n j r (h e)) refl
 
   -- the held command's row is stored, and the answer is 0 or 7
   module _ (h : Held) (held : m .outstanding ≡ Busy h) where
-    put-keeps : (new : Mount) (a : Answer) (r : Row) → new .volume ≡ m .volume → (answerNumber a ≢ 0 → answerNumber a ≢ 7 → ⊥)
-        → CompletionKeeps m cnv seq (record { outcome = record { answer = a; mount = new }; store = store.Put (h .kind) (h .number) r })
-    put-keeps new a r v never = record {
-      volume = v;
+    put-keeps : (new : Mount) (a : Answer) (r : Row) → (answerNumber a ≢ 0 → answerNumber a ≢ 7 → ⊥)
+        → Keeps (record { outcome = record { answer = a; mount = new }; store = store.Put (h .kind) (h .number) r })
+    put-keeps new a r never = record {
       refused = λ e f. absurd (never e f);
       tables = λ k. record {
         length = stored-length (h .kind) (h .number) r k (ofKind k cnv seq);
@@ -71,45 +78,47 @@ module _ (m : Mount) (cnv seq : List ℕ) where
     }
 
     -- nothing is stored
-    still-keeps : (new : Mount) (a : Answer) → new .volume ≡ m .volume → (answerNumber a ≢ 0 → answerNumber a ≢ 7 → ⊥)
-        → CompletionKeeps m cnv seq (record { outcome = record { answer = a; mount = new }; store = store.Nothing })
-    still-keeps new a v never =
-        record { volume = v; refused = λ e f. absurd (never e f); tables = λ k. record { length = refl; words = λ j e. refl; refused = λ e f. refl } }
+    still-keeps : (new : Mount) (a : Answer) → (answerNumber a ≢ 0 → answerNumber a ≢ 7 → ⊥)
+        → Keeps (record { outcome = record { answer = a; mount = new }; store = store.Nothing })
+    still-keeps new a never =
+        record { refused = λ e f. absurd (never e f); tables = λ k. record { length = refl; words = λ j e. refl; refused = λ e f. refl } }
 
-    success-keeps : (r : Row) → CompletionKeeps m cnv seq (succeeded m h r)
+    success-keeps : (r : Row) → Keeps (succeeded m h r)
     unfolding succeeded
-    success-keeps r = put-keeps _ _ _ refl (λ e f. e refl)
+    success-keeps r = put-keeps _ _ _ (λ e f. e refl)
 
-    marked-volume : (p : ErrorPolicy) → markedBy p (cleared m) .volume ≡ m .volume
-    marked-volume RemountRo = refl
-    marked-volume ZoneRo = refl
-    marked-volume ZoneOffline = refl
-    marked-volume Repair = refl
-
-    recovered-keeps : (r : Row) (z : Zone) → CompletionKeeps m cnv seq (recovered m h r z)
+    recovered-keeps : (r : Row) (z : Zone) → Keeps (recovered m h r z)
     unfolding recovered
     recovered-keeps r z = by (nothingLost (h .kind) (h .command .kind) z (r .size))
       where
-        by : (t : Bool) → CompletionKeeps m cnv seq (cond t (failing (cleared m) r store.Nothing) (recovering m h (recoveredRow (m .volume .policy) (h .kind) z r)))
-        by true = still-keeps _ _ refl (λ e f. f refl)
-        by false = put-keeps _ _ _ (marked-volume (m .volume .policy)) (λ e f. f refl)
+        by : (t : Bool) → Keeps (cond t (failing (cleared m) r store.Nothing) (recovering m h (recoveredRow (m .volume .policy) (h .kind) z r)))
+        by true = still-keeps _ _ (λ e f. f refl)
+        by false = put-keeps _ _ _ (λ e f. f refl)
 
-    digested-keeps : (r : Row) (x : Completion) → CompletionKeeps m cnv seq (digested m h r x)
-    digested-keeps r good = success-keeps r
-    digested-keeps r (failed z) = by (recordFits (m .volume .block) (h .kind) r z)
+    effect-keeps : (r : Row) (x : Completion) → Keeps (effectOn m h r x)
+    effect-keeps r good = success-keeps r
+    effect-keeps r (failed z) = by (recordFits (m .volume .block) (h .kind) r z)
       where
-        by : (t : Bool) → CompletionKeeps m cnv seq (cond t (recovered m h r z) (refusing m refusal.BadRecord))
+        by : (t : Bool) → Keeps (cond t (recovered m h r z) (refusing m refusal.BadRecord))
         by true = recovered-keeps r z
         by false = refusing-keeps refusal.BadRecord
-    digested-keeps r malformed = refusing-keeps refusal.BadRecord
+    effect-keeps r malformed = refusing-keeps refusal.BadRecord
 
-  pending-keeps : (p : Pending) → PendingTells m cnv seq p → (x : Completion) → CompletionKeeps m cnv seq (digestPending m p x)
-  pending-keeps (pending.On h r) w x = digested-keeps h (w .held) r x
+  pending-keeps : (p : Pending) → PendingTells m cnv seq p → (x : Completion) → Keeps (effectPending m p x)
+  pending-keeps (pending.On h r) w x = effect-keeps h (w .held) r x
   pending-keeps (pending.Refused y) w x = refusing-keeps y
 
+  completion-keeps : (x : Completion) → Keeps (effectOf m cnv seq x)
+  unfolding effectOf
+  completion-keeps x = pending-keeps (pendingOf m cnv seq) (pending-tells m cnv seq) x
+
+-- THE CLAIM
 pub frame : Frame
-unfolding digestOf
 frame = record {
-  calls = λ m cnv seq k n x. call-keeps m k n (answered m cnv seq k n x);
-  completions = λ m cnv seq x. pending-keeps m cnv seq (pendingOf m cnv seq) (pending-tells m cnv seq) x;
+  calls = λ m cnv seq k n x.
+      let w = call-keeps m k n (answered m cnv seq k n x) in
+      record { volume = outcome-fixes m cnv seq k n x; readonly = w .0; refused = w .1 };
+  completions = λ m cnv seq x.
+      let w = completion-keeps m cnv seq x in
+      record { volume = effect-fixes m cnv seq x; refused = w .refused; tables = w .tables };
 }

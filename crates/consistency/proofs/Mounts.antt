@@ -1,38 +1,71 @@
--- An answer of 0 is no refusal, and what the mount gives then.
+-- What a mount answered 0 tells, and what it leaves. The mount's definition is opened here and nowhere above.
 -- Assumes nothing.
-use mathlib.Core.Path.{_≡_, refl}
-use Prim.Native.Nat.{ℕ, _<_}
-use native.Mathlib.Omega.{arith}
-use Rattle.types.specs.declared.Refusal.{Refusal}
-use Rattle.types.specs.declared.Refusal.the-variants.{NoFile, Busy, ReadOnlyMount, Denied, BeyondCapacity, Misplaced, Failed, NothingOutstanding, BadRecord, Impossible, BadBlock, SuperLength, SuperMagic, SuperChecksum, SuperFeatures, SuperOwner, SuperTail, BadOptions, BadReport, BadZone, TooFewRows}
+use mathlib.Core.Bool.{false}
+use mathlib.Core.List.{List}
+use mathlib.Core.Path.{_≡_, refl, _∙_}
+use Prim.Native.Nat.{ℕ}
+use lib.ListN.{length}
+use Rattle.types.specs.declared.Row.{Row}
+use Rattle.types.specs.declared.Outstanding.the-variants.{Idle}
 use Rattle.types.specs.declared.MountAnswer.{MountAnswer}
-use Rattle.types.specs.declared.MountAnswer.the-variants.{Refused, Mounted}
-use Rattle.types.specs.Numbers.{refusalNumber, mountNumber}
+use Rattle.types.specs.declared.MountAnswer.the-variants.{Mounted}
+use Rattle.types.specs.Numbers.{mountNumber}
+use Rattle.types.proofs.NumberLaws.{mounted-zero}
+use Rattle.table.specs.Rows.{rowsLent}
+use Rattle.superblock.specs.SuperBlock.{superRead}
+use Rattle.options.specs.Options.{optionsOf}
+use Rattle.files.specs.Files.{cnvRows, seqRows}
+use Rattle.mount.specs.Fill.{fill}
+use Rattle.mount.specs.Mount.{Mounting, fileZones, policyOf, aggregated, mountOf, tableAfter, mountOutcome}
+use Rattle.mount.proofs.Mounted.{Accepted, mounted-told, mounted-given}
 
--- no refusal has the number 0
-positive : (r : Refusal) → 0 < refusalNumber r
-positive NoFile = omega arith
-positive Busy = omega arith
-positive ReadOnlyMount = omega arith
-positive Denied = omega arith
-positive BeyondCapacity = omega arith
-positive Misplaced = omega arith
-positive (Failed n) = omega arith
-positive NothingOutstanding = omega arith
-positive BadRecord = omega arith
-positive Impossible = omega arith
-positive BadBlock = omega arith
-positive SuperLength = omega arith
-positive SuperMagic = omega arith
-positive SuperChecksum = omega arith
-positive SuperFeatures = omega arith
-positive SuperOwner = omega arith
-positive SuperTail = omega arith
-positive BadOptions = omega arith
-positive BadReport = omega arith
-positive (BadZone n) = omega arith
-positive TooFewRows = omega arith
+module _ (block : ℕ) (superblock options report cnv seq : List ℕ) where
+  abbrev pub cnvs : List Row
+  cnvs = cnvRows (aggregated superblock) (fileZones report)
 
-pub is-mounted : (a : MountAnswer) → mountNumber a ≡ 0 → (c : ℕ) × ((s : ℕ) × (a ≡ Mounted c s))
-is-mounted (Refused r) e = absurd (omega (arith, positive r))
-is-mounted (Mounted c s) e = (c, (s, refl))
+  abbrev pub seqs : List Row
+  seqs = seqRows (fileZones report)
+
+  -- its checks are passed
+  abbrev pub Accepts : Type 0
+  Accepts = Accepted block (superRead superblock .check) (optionsOf options) (aggregated superblock) report (rowsLent (length cnv)) (rowsLent (length seq)) (length cnvs) (length seqs)
+
+  answered : mountNumber (mountOutcome block superblock options report cnv seq .answer) ≡ 0 → mountOutcome block superblock options report cnv seq .answer ≡ Mounted (length cnvs) (length seqs)
+  answered zeroed =
+      let (c, (s, e)) = mounted-zero (mountOutcome block superblock options report cnv seq .answer) zeroed in
+      let t = mounted-told block superblock options report cnv seq c s e in
+      let n = t .cnvs in
+      let m = t .seqs in
+      let same : _≡_ {A = MountAnswer} (Mounted c s) (Mounted (length cnvs) (length seqs)) = cc in
+      e ∙ same
+
+  pub accepts : mountNumber (mountOutcome block superblock options report cnv seq .answer) ≡ 0 → Accepts
+  accepts e = mounted-told block superblock options report cnv seq (length cnvs) (length seqs) (answered e)
+
+  -- and what it leaves then
+  abbrev pub leaves : Mounting
+  leaves =
+      let fields = superRead superblock .fields in
+      record {
+        answer = Mounted (length cnvs) (length seqs);
+        mount = record {
+          volume = record {
+            block = block;
+            conventional = length cnvs;
+            sequential = length seqs;
+            owner = fields .owner;
+            group = fields .group;
+            mode = fields .mode;
+            policy = policyOf (optionsOf options);
+            uuid = fields .uuid;
+          };
+          readonly = false;
+          outstanding = Idle;
+        };
+        cnv = fill cnv cnvs;
+        seq = fill seq seqs;
+      }
+
+  pub mount-leaves : Accepts → mountOutcome block superblock options report cnv seq ≡ leaves
+  unfolding mountOutcome tableAfter mountOf
+  mount-leaves t = rw (mounted-given block superblock options report cnv seq (length cnvs) (length seqs) t) refl

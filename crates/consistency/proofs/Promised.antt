@@ -2,29 +2,19 @@
 -- Assumes nothing.
 use mathlib.Core.Bool.{Bool, true, false, not, cond, _&&_, _||_}
 use mathlib.Core.Path.{_≡_, refl, ap, _∙_}
-use Prim.Native.Nat.{ℕ, _-_, _*_}
+use Prim.Native.Nat.{ℕ}
 use Rattle.types.specs.declared.Row.{Row}
 use Rattle.types.specs.declared.Condition.{Condition}
 use Rattle.types.specs.declared.Condition.the-variants.{Healthy, ReadOnly, Offline}
 use Rattle.types.specs.declared.Access.{Access}
 use Rattle.types.specs.declared.ErrorPolicy.{ErrorPolicy}
 use Rattle.types.specs.declared.ErrorPolicy.the-variants.{RemountRo, ZoneRo, ZoneOffline, Repair}
-use Rattle.calls.specs.Checks.{isReadOnly}
-use Rattle.zones.specs.Zone.{isHealthy}
+use Rattle.types.specs.Predicates.{isHealthy, isReadOnly}
 use Rattle.consistency.specs.Disk.{DiskZone}
-use Rattle.consistency.specs.Story.{Story}
+use Rattle.consistency.specs.FileHistory.{FileHistory}
 use Rattle.consistency.specs.Claim.{promisedSize, promisedAccess, promisedCondition, AsPromised, isZoneOffline, isZoneRo}
-use Rattle.consistency.proofs.Keeps.{Agrees, Live, Dead, State, live, dead, sizeOf, accessOf}
-
--- the row that a mount makes of the zone, field by field
-abbrev pub shownRow : DiskZone → Row
-shownRow z = record {
-  start = z .start;
-  capacity = z .capacity * 512;
-  size = cond (isHealthy (z .condition)) ((z .pointer - z .start) * 512) 0;
-  condition = cond (isHealthy (z .condition)) Healthy Offline;
-  access = cond (isHealthy (z .condition)) Access.Write Access.Nothing;
-}
+use Rattle.consistency.proofs.Shown.{writtenTo, shownRow}
+use Rattle.consistency.proofs.Agrees.{Agrees, Live, Dead, RowState, live, dead, sizeOf, accessOf}
 
 size-promised : (p : ErrorPolicy) (s : Bool) (h : Condition) (last f : ℕ) → (s ≡ false → h ≡ Healthy) → (h ≡ Healthy → last ≡ f)
     → sizeOf p s h last ≡ cond (isZoneOffline p && s) 0 (cond (not (isZoneOffline p) && (isReadOnly h && true)) last (cond (isHealthy h) f 0))
@@ -69,10 +59,10 @@ condition-promised Healthy = refl
 condition-promised ReadOnly = refl
 condition-promised Offline = refl
 
-promised-live : {b : ℕ} {p : ErrorPolicy} {z : DiskZone} {s : Story} {r : Row} → Agrees b p z s r → Live b p z s r → s .quiet ≡ true → AsPromised p s z (shownRow z) r
+promised-live : {b : ℕ} {p : ErrorPolicy} {z : DiskZone} {s : FileHistory} {r : Row} → Agrees b p z s r → Live b p z s r → s .quiet ≡ true → AsPromised p s z (shownRow z) r
 unfolding promisedSize promisedAccess promisedCondition
 promised-live {b} {p} {z} {s} {r} a l q =
-    let sized = size-promised p (s .recovered) (r .condition) (s .lastSize) ((z .pointer - z .start) * 512) (l .intact) (λ e. l .last q (l .known q ∙ e)) in
+    let sized = size-promised p (s .recovered) (r .condition) (s .lastSize) (writtenTo z) (l .intact) (λ e. l .last q (l .known q ∙ e)) in
     let given = access-promised p (s .recovered) (r .condition) (l .intact) in
     record { start = a .start; capacity = a .capacity; size = rw (l .known q, l .mounted) (l .size ∙ sized); access = rw (l .known q, l .mounted) (l .access ∙ given); condition = rw (l .known q, l .mounted) (condition-promised (r .condition)) }
 
@@ -83,7 +73,7 @@ not-turned ReadOnly true f = refl
 not-turned ReadOnly false f = let e : isReadOnly ReadOnly ≡ isReadOnly Offline = ap isReadOnly (f refl) in e
 not-turned Offline t f = refl
 
-promised-dead : {b : ℕ} {p : ErrorPolicy} {z : DiskZone} {s : Story} {r : Row} → Agrees b p z s r → Dead z s r → AsPromised p s z (shownRow z) r
+promised-dead : {b : ℕ} {p : ErrorPolicy} {z : DiskZone} {s : FileHistory} {r : Row} → Agrees b p z s r → Dead z s r → AsPromised p s z (shownRow z) r
 unfolding promisedSize promisedAccess promisedCondition
 promised-dead {b} {p} {z} {s} {r} a d =
     let t = not-turned (z .condition) (s .readOnlyAtMount) (d .mounted) in
@@ -107,9 +97,9 @@ promised-dead {b} {p} {z} {s} {r} a d =
     none-of ZoneOffline = refl
     none-of Repair = refl
 
-pub promised : {b : ℕ} {p : ErrorPolicy} {z : DiskZone} {s : Story} {r : Row} → Agrees b p z s r → s .quiet ≡ true → AsPromised p s z (shownRow z) r
+pub promised : {b : ℕ} {p : ErrorPolicy} {z : DiskZone} {s : FileHistory} {r : Row} → Agrees b p z s r → s .quiet ≡ true → AsPromised p s z (shownRow z) r
 promised {b} {p} {z} {s} {r} a q = by (a .state)
   where
-    by : State b p z s r → AsPromised p s z (shownRow z) r
+    by : RowState b p z s r → AsPromised p s z (shownRow z) r
     by (live l) = promised-live a l q
     by (dead d) = promised-dead a d

@@ -1,9 +1,9 @@
 -- What a mount answered 0 leaves has the invariant.
 -- Assumes nothing.
-use mathlib.Core.Bool.{Bool, true, false, not, cond, _&&_, false≢true}
+use mathlib.Core.Bool.{Bool, true, false, not, _&&_, false≢true}
 use mathlib.Core.List.{List, [], _∷_, map}
 use mathlib.Core.Path.{_≡_, refl, sym, ap, _∙_, subst}
-use Prim.Native.Nat.{ℕ, zero, suc, _+_, _-_, _*_, _/_, _%_, _≤_, _<_}
+use Prim.Native.Nat.{ℕ, zero, suc, _+_, _*_, _/_, _%_, _≤_, _<_}
 use native.Mathlib.Omega.{arith}
 use native.Mathlib.Nat.{zero-mod}
 use lib.Dec.{ltb}
@@ -14,59 +14,37 @@ use Rattle.types.specs.declared.FileKind.{FileKind}
 use Rattle.types.specs.declared.FileKind.the-variants.{Conventional, Sequential}
 use Rattle.types.specs.declared.Condition.{Condition}
 use Rattle.types.specs.declared.Condition.the-variants.{Healthy, ReadOnly, Offline}
-use Rattle.types.specs.declared.Access.{Access}
 use Rattle.types.specs.declared.ErrorPolicy.{ErrorPolicy}
 use Rattle.types.proofs.Tests.{and-right}
 use Rattle.types.proofs.Blocks.{IsBlock}
-use Rattle.calls.specs.Checks.{isConventional, isReadOnly}
+use Rattle.types.specs.Predicates.{isConventional, isHealthy, isReadOnly}
+use Rattle.types.proofs.PredicateLaws.{conventional-is}
 use Rattle.zones.specs.declared.Zone.{Zone}
-use Rattle.zones.specs.Zone.{isHealthy, healthy, conventional, sequential, writtenSize}
-use Rattle.zones.proofs.Laws.{zone-told, AllGood}
-use Rattle.mount.specs.Files.{fileRow, seqRow, rowIf, seqRows, startsConventional, runsWith, runs, joined, runRow, startOf, capacityOf, allHealthy, cnvRows}
+use Rattle.zones.specs.Zone.{conventional, sequential}
+use Rattle.zones.proofs.Laws.{zone-told}
+use Rattle.report.proofs.Laws.{AllGood}
+use Rattle.files.specs.Files.{seqRow, rowIf, seqRows, startsConventional, runsWith, runs, joined, runRow, startOf, capacityOf, allHealthy, cnvRows}
 use Rattle.consistency.specs.Disk.{DiskZone}
-use Rattle.consistency.specs.Story.{atMount}
+use Rattle.consistency.specs.FileHistory.{atMount}
 use Rattle.consistency.specs.Shows.{ShowsZone, ShowsZones, none, next}
-use Rattle.consistency.specs.World.{noZone, zoneHolding}
+use Rattle.consistency.specs.System.{noZone, zoneHolding}
 use Rattle.consistency.proofs.Whole.{whole-size, whole-next}
-use Rattle.consistency.proofs.Sound.{Sound, sound-of, says-conventional, says-sequential, says-condition}
-use Rattle.consistency.proofs.Keeps.{Agrees, State, live, dead, fresh-size}
-use Rattle.consistency.proofs.Promised.{shownRow}
+use Rattle.consistency.proofs.SoundZone.{SoundZone, sound-of, says-conventional, says-sequential}
+use Rattle.consistency.proofs.Shown.{shownRow, file-row, seq-row, fresh-size}
+use Rattle.consistency.proofs.Agrees.{Agrees, RowState, live, dead}
 use Rattle.consistency.proofs.Bridge.{noRow}
 use Rattle.consistency.proofs.Files.{Files, Inside, Covers, zone-here, zone-later}
 use Rattle.consistency.proofs.Files as files
 
--- THE ROW that a mount makes of a zone's record
-abbrev rowBy : Bool → ℕ → ℕ → ℕ → Row
-rowBy t s c n = record { start = s; capacity = c; size = cond t n 0; condition = cond t Healthy Offline; access = cond t Access.Write Access.Nothing }
-
-file-row : (t : Bool) (s c n : ℕ) → fileRow t s c n ≡ rowBy t s c n
-file-row true s c n = refl
-file-row false s c n = refl
-
-row-same : (h : Condition) (s c n m : ℕ) → (h ≡ Healthy → n ≡ m) → rowBy (isHealthy h) s c n ≡ rowBy (isHealthy h) s c m
-row-same Healthy s c n m e = ap (λ x. rowBy true s c x) (e refl)
-row-same ReadOnly s c n m e = refl
-row-same Offline s c n m e = refl
-
-pub seq-row : {r : Zone} {z : DiskZone} → ShowsZone r z → z .kind ≡ Sequential → seqRow r ≡ shownRow z
-seq-row {r} {z} w k =
-    file-row (healthy r) (r .start) (r .capacity * 512) (writtenSize r)
-    ∙ ap (λ t. rowBy t (r .start) (r .capacity * 512) (writtenSize r)) (ap isHealthy (says-condition w))
-    ∙ ap (λ s. rowBy (isHealthy (z .condition)) s (r .capacity * 512) (writtenSize r)) (w .start)
-    ∙ ap (λ c. rowBy (isHealthy (z .condition)) (z .start) (c * 512) (writtenSize r)) (w .capacity)
-    ∙ row-same (z .condition) (z .start) (z .capacity * 512) (writtenSize r) ((z .pointer - z .start) * 512) (λ h. written h)
-  where
-    written : z .condition ≡ Healthy → (r .pointer - r .start) * 512 ≡ (z .pointer - z .start) * 512
-    written h = let p = w .pointer k h in let s = w .start in rw (p, s)
-
-agrees-at-mount : {b : ℕ} (p : ErrorPolicy) (z : DiskZone) → IsBlock b → Sound b z → z .kind ≡ Sequential → 0 < z .start → Agrees b p z (atMount z) (shownRow z)
+-- A FILE as it is at mount
+agrees-at-mount : {b : ℕ} (p : ErrorPolicy) (z : DiskZone) → IsBlock b → SoundZone b z → z .kind ≡ Sequential → 0 < z .start → Agrees b p z (atMount z) (shownRow z)
 unfolding atMount
 agrees-at-mount {b} p z block sound kind inner = record { kind = kind; sound = sound; inner = inner; start = refl; capacity = refl; state = by (z .condition) refl }
   where
-    unread : (h : Condition) → z .condition ≡ h → isHealthy h ≡ false → (isReadOnly h ≡ false → h ≡ Offline) → State b p z (atMount z) (shownRow z)
+    unread : (h : Condition) → z .condition ≡ h → isHealthy h ≡ false → (isReadOnly h ≡ false → h ≡ Offline) → RowState b p z (atMount z) (shownRow z)
     unread h e u o = dead (record { size = rw (e, u); access = rw (e, u); condition = rw (e, u); untouched = refl; unhealthy = rw e u; mounted = λ f. e ∙ o (rw e at f) })
 
-    by : (h : Condition) → z .condition ≡ h → State b p z (atMount z) (shownRow z)
+    by : (h : Condition) → z .condition ≡ h → RowState b p z (atMount z) (shownRow z)
     by Healthy e = live (record {
       size = sym (fresh-size z);
       access = rw e;
@@ -84,7 +62,7 @@ agrees-at-mount {b} p z block sound kind inner = record { kind = kind; sound = s
 -- ZONES THAT ARE GOOD INPUT, one after the other
 record Good (b at : ℕ) (r : Zone) (z : DiskZone) (rs : List Zone) : Type 0 where
   start : z .start ≡ at
-  sound : Sound b z
+  sound : SoundZone b z
   rest : AllGood (b / 512) (at + z .length) rs
 
 good-first : {b at : ℕ} {r : Zone} {z : DiskZone} {rs : List Zone} → ShowsZone r z → at % (b / 512) ≡ 0 → AllGood (b / 512) at (r ∷ rs) → Good b at r z rs
@@ -144,13 +122,13 @@ all-later at z zs e nil = nil
 all-later at z zs e (cons {r = r} l c v) = let h : at ≤ r .start = omega arith in cons h (covers-later z zs r (omega arith) c) (all-later at z zs e v)
 
 -- a conventional zone's own row, and its row joined to the run after it
-covers-own : {b : ℕ} (z : DiskZone) (zs : List DiskZone) (r : Row) → r .start ≡ z .start → r .capacity ≡ z .capacity * 512 → z .kind ≡ Conventional → Sound b z → Covers b (z ∷ zs) r
+covers-own : {b : ℕ} (z : DiskZone) (zs : List DiskZone) (r : Row) → r .start ≡ z .start → r .capacity ≡ z .capacity * 512 → z .kind ≡ Conventional → SoundZone b z → Covers b (z ∷ zs) r
 covers-own z zs r s c k sound =
     let same = sound .flat k in
     record { at = λ x low high. rw (zone-here z zs x (omega arith)) (record { kind = k; sound = sound; low = omega arith; high = omega arith }) }
 
 covers-joined : {b : ℕ} (z : DiskZone) (zs : List DiskZone) (r q : Row) → r .start ≡ z .start → r .capacity ≡ z .capacity * 512 + q .capacity → q .start ≡ z .start + z .length
-    → z .kind ≡ Conventional → Sound b z → Covers b zs q → Covers b (z ∷ zs) r
+    → z .kind ≡ Conventional → SoundZone b z → Covers b zs q → Covers b (z ∷ zs) r
 covers-joined {b} z zs r q s c t k sound v = record { at = λ x low high. by x low high (ltb x ((z .start + z .length) * 512)) refl }
   where
     by : (x : ℕ) → r .start * 512 ≤ x → x < r .start * 512 + r .capacity → (y : Bool) → ltb x ((z .start + z .length) * 512) ≡ y → Inside b r (getD (z ∷ zs) (zoneHolding (z ∷ zs) x) noZone)
@@ -164,18 +142,10 @@ covers-joined {b} z zs r q s c t k sound v = record { at = λ x low high. by x l
         rw (zone-later z zs x past) (record { kind = i .kind; sound = i .sound; low = omega (arith, i .low); high = omega (arith, i .high) })
 
 run-start : (run : List Zone) → runRow run .start ≡ startOf run
-run-start run = by (allHealthy run)
-  where
-    by : (t : Bool) → fileRow t (startOf run) (capacityOf run * 512) (capacityOf run * 512) .start ≡ startOf run
-    by true = refl
-    by false = refl
+run-start run = ap (λ (r : Row). r .start) (file-row (allHealthy run) (startOf run) (capacityOf run * 512) (capacityOf run * 512))
 
 run-capacity : (run : List Zone) → runRow run .capacity ≡ capacityOf run * 512
-run-capacity run = by (allHealthy run)
-  where
-    by : (t : Bool) → fileRow t (startOf run) (capacityOf run * 512) (capacityOf run * 512) .capacity ≡ capacityOf run * 512
-    by true = refl
-    by false = refl
+run-capacity run = ap (λ (r : Row). r .capacity) (file-row (allHealthy run) (startOf run) (capacityOf run * 512) (capacityOf run * 512))
 
 abbrev Begins : ℕ → List Row → Type 0
 Begins at [] = ⊥
@@ -186,7 +156,7 @@ record Runs-start (b at : ℕ) (rs : List Zone) (zs : List DiskZone) (rows : Lis
   head : startsConventional rs ≡ true → Begins at rows
 
 -- a run of one
-single : {b at : ℕ} {r : Zone} {z : DiskZone} {rs : List Zone} {zs : List DiskZone} {rows : List Row} → ShowsZone r z → z .kind ≡ Conventional → z .start ≡ at → Sound b z → Rows-cover b (at + z .length) zs rows
+single : {b at : ℕ} {r : Zone} {z : DiskZone} {rs : List Zone} {zs : List DiskZone} {rows : List Row} → ShowsZone r z → z .kind ≡ Conventional → z .start ≡ at → SoundZone b z → Rows-cover b (at + z .length) zs rows
     → Runs-start b at (r ∷ rs) (z ∷ zs) (runRow (r ∷ []) ∷ rows)
 unfolding capacityOf
 single {b} {at} {r} {z} {rs} {zs} w k e sound v =
@@ -197,7 +167,7 @@ single {b} {at} {r} {z} {rs} {zs} w k e sound v =
     record { cover = cons low (covers-own z zs row s c k sound) (all-later at z zs e v); head = λ _. s ∙ e }
 
 -- a run that goes on in the next
-longer : {b at : ℕ} {r : Zone} {z : DiskZone} {rs : List Zone} {zs : List DiskZone} → ShowsZone r z → z .kind ≡ Conventional → z .start ≡ at → Sound b z → (rest : List (List Zone)) → Rows-cover b (at + z .length) zs (map runRow rest)
+longer : {b at : ℕ} {r : Zone} {z : DiskZone} {rs : List Zone} {zs : List DiskZone} → ShowsZone r z → z .kind ≡ Conventional → z .start ≡ at → SoundZone b z → (rest : List (List Zone)) → Rows-cover b (at + z .length) zs (map runRow rest)
     → Begins (at + z .length) (map runRow rest) → Runs-start b at (r ∷ rs) (z ∷ zs) (map runRow (joined r rest))
 unfolding capacityOf
 longer w k e sound [] v h = absurd h
@@ -218,11 +188,7 @@ runs-at {b} block g at (next {r = r} {z = z} {rs = rs} {zs = zs} w ws) on l =
     by (conventional r) refl (g && startsConventional rs) refl f (runs-at block g (at + z .length) ws (whole-next block at (z .length) on (f .sound .spans)) (f .rest))
   where
     plain : conventional r ≡ true → z .kind ≡ Conventional
-    plain e = kind-of (z .kind) (sym (says-conventional w) ∙ e)
-      where
-        kind-of : (k : FileKind) → isConventional k ≡ true → k ≡ Conventional
-        kind-of Conventional e = refl
-        kind-of Sequential e = absurd (false≢true e)
+    plain e = conventional-is (z .kind) (sym (says-conventional w) ∙ e)
 
     by : (s : Bool) → conventional r ≡ s → (t : Bool) → g && startsConventional rs ≡ t → Good b at r z rs → Runs-start b (at + z .length) rs zs (map runRow (runs g rs))
         → Runs-start b at (r ∷ rs) (z ∷ zs) (map runRow (runsWith s t r (runs g rs)))

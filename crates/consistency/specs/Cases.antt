@@ -1,24 +1,28 @@
 -- The starred cases of the paper, in its order: "proved as a single table with one claim about the definitions". All of it from bytes.
 -- "Block 4096, five zones of 524288 sectors; 0 to 2 conventional; zone 3 sequential, condition 2, start 1572864, capacity 393216
 -- (201326592 bytes), pointer 1572872; zone 4 alike in capacity, empty; repair."
-use mathlib.Core.Bool.{Bool, true, false, cond}
+use mathlib.Core.Bool.{Bool, true, false}
 use mathlib.Core.List.{List, [], _∷_, _++_, map}
 use mathlib.Core.Path.{_≡_}
 use Prim.Native.Nat.{ℕ, _*_}
 use lib.ListN.{replicate}
 use Rattle.types.specs.declared.FileKind.the-variants.{Sequential}
+use Rattle.types.specs.declared.ErrorPolicy.{ErrorPolicy}
+use Rattle.types.specs.declared.ErrorPolicy.the-variants.{RemountRo, ZoneRo, ZoneOffline, Repair}
 use Rattle.types.specs.declared.Call.{Call}
 use Rattle.types.specs.declared.Answer.{Answer}
+use Rattle.types.specs.Codes.{flagCode}
 use Rattle.types.specs.Numbers.{answerNumber, answerValues, mountNumber, mountValues}
 use Rattle.table.specs.Rows.{wordAt}
 use Rattle.text.specs.Text.{ascii}
-use Rattle.wire.specs.Le.{little}
+use Rattle.superblock.specs.SuperBlock.{encodeSuper}
 use Rattle.zones.specs.declared.Zone.{Zone}
+use Rattle.zones.specs.Zone.{encodeZone}
+use Rattle.report.specs.Report.{encodeReport}
 use Rattle.mount.specs.Mount.{Mounting, mountOutcome}
 use Rattle.calls.specs.Calls.{outcomeOf}
-use Rattle.completion.specs.declared.Digest.{Digest}
-use Rattle.completion.specs.Completions.{completionOf, digestOf, stored}
-use Rattle.consistency.specs.Report.{recordThen, reportFrom}
+use Rattle.completion.specs.declared.Effect.{Effect}
+use Rattle.completion.specs.Completions.{completionOf, effectOf, stored}
 
 -- ---- what the cases stand on
 
@@ -29,7 +33,7 @@ zone number kind condition capacity pointer =
 
 unfoldable pub report : List ℕ
 report =
-    reportFrom (zone 0 1 0 524288 0 ∷ zone 1 1 0 524288 0 ∷ zone 2 1 0 524288 0 ∷ zone 3 2 2 393216 1572872 ∷ zone 4 2 1 393216 2097152 ∷ [])
+    encodeReport (zone 0 1 0 524288 0 ∷ zone 1 1 0 524288 0 ∷ zone 2 1 0 524288 0 ∷ zone 3 2 2 393216 1572872 ∷ zone 4 2 1 393216 2097152 ∷ [])
 
 -- the last four bytes of the uuid, chosen such that the checksum's register is 0 where the zeros begin: so is the checksum then, and
 -- 4,096 bytes of it are soon computed
@@ -37,19 +41,28 @@ abbrev pub uuidEnd : Bool → List ℕ
 uuidEnd false = 10 ∷ 75 ∷ 120 ∷ 231 ∷ []
 uuidEnd true = 75 ∷ 77 ∷ 9 ∷ 60 ∷ []
 
--- magic, checksum, label, uuid, features, zeros: a super block with feature bit 0 clear or set
+-- all sixteen
+abbrev pub uuid : Bool → List ℕ
+uuid aggregate = 1 ∷ 2 ∷ 3 ∷ 4 ∷ 5 ∷ 6 ∷ 7 ∷ 8 ∷ 9 ∷ 10 ∷ 11 ∷ 12 ∷ uuidEnd aggregate
+
+-- a super block with feature bit 0 clear or set, without a label, uid, gid or perm
 unfoldable pub superblock : Bool → List ℕ
-superblock aggregate =
-    little 4 0x5A4F4653 ++ (little 4 0 ++ (replicate 64 0 ++ ((1 ∷ 2 ∷ 3 ∷ 4 ∷ 5 ∷ 6 ∷ 7 ∷ 8 ∷ 9 ∷ 10 ∷ 11 ∷ 12 ∷ []) ++ (uuidEnd aggregate ++
-    (little 8 (cond aggregate 1 0) ++ replicate 4000 0)))))
+superblock aggregate = encodeSuper 0 (replicate 64 0) (uuid aggregate) (flagCode aggregate) 0 0 0
 
 -- two rows of either kind are lent, with some words in them
 abbrev pub lent : List ℕ
 lent = replicate 10 7
 
--- the mount, without aggregation and with it
-abbrev pub mounting : Bool → Mounting
-mounting aggregate = mountOutcome 4096 (superblock aggregate) (ascii "errors=repair") report lent lent
+-- the text of an option
+abbrev pub optionText : ErrorPolicy → List ℕ
+optionText RemountRo = ascii "errors=remount-ro"
+optionText ZoneRo = ascii "errors=zone-ro"
+optionText ZoneOffline = ascii "errors=zone-offline"
+optionText Repair = ascii "errors=repair"
+
+-- the mount, without aggregation or with it, and under an option
+abbrev pub mountUnder : Bool → ErrorPolicy → Mounting
+mountUnder aggregate p = mountOutcome 4096 (superblock aggregate) (optionText p) report lent lent
 
 -- ---- what is asked of them
 
@@ -71,8 +84,8 @@ abbrev pub callOn : Mounting → ℕ → Call → List ℕ
 callOn o n x = numbered (outcomeOf (o .mount) (o .cnv) (o .seq) Sequential n x .answer)
 
 -- "write 8192 at 4096 fails" with this record
-abbrev pub failedBy : Mounting → Zone → Digest
-failedBy o r = digestOf (outcomeOf (o .mount) (o .cnv) (o .seq) Sequential 0 (Call.Write 4096 8192) .mount) (o .cnv) (o .seq) (completionOf true (recordThen r []))
+abbrev pub failedBy : Mounting → Zone → Effect
+failedBy o r = effectOf (outcomeOf (o .mount) (o .cnv) (o .seq) Sequential 0 (Call.Write 4096 8192) .mount) (o .cnv) (o .seq) (completionOf true (encodeZone r))
 
 -- number and values of the answer, and then the row's size and access (0 none, 1 read, 2 write)
 abbrev pub failedWrite : Mounting → Zone → List ℕ
@@ -114,8 +127,12 @@ casesOf plain joined =
     ∷ []
 
 abbrev pub cases : List Case
-cases = casesOf (mounting false) (mounting true)
+cases = casesOf (mountUnder false Repair) (mountUnder true Repair)
+
+-- each case gives what is stated
+abbrev pub AsStated : List Case → Type 0
+AsStated table = map (λ (c : Case). c .given) table ≡ map (λ (c : Case). c .stated) table
 
 -- THE CLAIM: each case gives what the paper says.
 unfoldable pub Starred : Type 0
-Starred = map (λ (c : Case). c .given) cases ≡ map (λ (c : Case). c .stated) cases
+Starred = AsStated cases

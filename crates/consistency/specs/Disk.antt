@@ -8,11 +8,12 @@ use Rattle.types.specs.declared.FileKind.the-variants.{Conventional, Sequential
 use Rattle.types.specs.declared.Condition.{Condition}
 use Rattle.types.specs.declared.Condition.the-variants.{Healthy, ReadOnly, Offline}
 use Rattle.types.specs.declared.Command.{Command}
-use Rattle.types.specs.declared.CommandKind.{CommandKind}
-use Rattle.zones.specs.declared.Zone.{Zone}
+use Rattle.types.specs.declared.Movement.{Movement}
+use Rattle.types.specs.declared.Movement.the-variants.{Stays, Advances, ToStart, ToEnd}
 use Rattle.types.specs.Blocks.{sectorBytes, bytesOf, blockSectors}
-use Rattle.calls.specs.Checks.{isOffline}
-use Rattle.zones.specs.Zone.{isHealthy}
+use Rattle.types.specs.Commands.{movementOf, isRead}
+use Rattle.types.specs.Predicates.{isHealthy, isOffline}
+use Rattle.zones.specs.declared.Zone.{Zone}
 
 -- a zone as the disk has it; `Zone` is a record of one
 pub record DiskZone : Type 0 where
@@ -69,17 +70,17 @@ abbrev pub flushes : FileKind → Bool → Bool
 flushes Conventional quiet = true
 flushes Sequential quiet = quiet
 
--- "Write, reset and finish fail on an unhealthy zone, a read on an offline one."
-abbrev pub allowsBy : CommandKind → Bool → DiskZone → ℕ → Bool
-allowsBy CommandKind.Read quiet z address = not (isOffline (z .condition))
-allowsBy CommandKind.Write quiet z address = isHealthy (z .condition) && takesAt (z .kind) (z .pointer) address
-allowsBy CommandKind.Reset quiet z address = isHealthy (z .condition)
-allowsBy CommandKind.Finish quiet z address = isHealthy (z .condition)
-allowsBy CommandKind.Flush quiet z address = flushes (z .kind) quiet
+-- "Write, reset and finish", which move the pointer, "fail on an unhealthy zone, a read on an offline one"; a write is taken only at the
+-- pointer, and what neither moves nor reads is a flush
+abbrev pub allowsBy : Movement → Bool → Bool → DiskZone → ℕ → Bool
+allowsBy Stays read quiet z address = cond read (not (isOffline (z .condition))) (flushes (z .kind) quiet)
+allowsBy Advances read quiet z address = isHealthy (z .condition) && takesAt (z .kind) (z .pointer) address
+allowsBy ToStart read quiet z address = isHealthy (z .condition)
+allowsBy ToEnd read quiet z address = isHealthy (z .condition)
 
 -- the zone can do the command
 unfoldable pub allows : Bool → DiskZone → Command → Bool
-allows quiet z c = allowsBy (c .kind) quiet z (c .address)
+allows quiet z c = allowsBy (movementOf (c .kind)) (isRead (c .kind)) quiet z (c .address)
 
 -- ".. and moves it by the length"
 abbrev pub advanced : FileKind → ℕ → ℕ → ℕ
@@ -87,21 +88,18 @@ advanced Conventional pointer n = pointer
 advanced Sequential pointer n = pointer + n / sectorBytes
 
 -- the pointer once a command of n bytes is done: "reset and finish move it to start and start+capacity"
-abbrev pub pointerAfter : DiskZone → CommandKind → ℕ → ℕ
-pointerAfter z CommandKind.Read n = z .pointer
-pointerAfter z CommandKind.Write n = advanced (z .kind) (z .pointer) n
-pointerAfter z CommandKind.Reset n = z .start
-pointerAfter z CommandKind.Finish n = z .start + z .capacity
-pointerAfter z CommandKind.Flush n = z .pointer
+abbrev pub pointerAfter : DiskZone → Movement → ℕ → ℕ
+pointerAfter z Stays n = z .pointer
+pointerAfter z Advances n = advanced (z .kind) (z .pointer) n
+pointerAfter z ToStart n = z .start
+pointerAfter z ToEnd n = z .start + z .capacity
 
 -- "a failing write may first land any whole number of its blocks", where the zone can take it; else nothing lands
-abbrev pub landedBy : CommandKind → Bool → ℕ → DiskZone → ℕ → ℕ → ℕ
-landedBy CommandKind.Read can b z n blocks = z .pointer
-landedBy CommandKind.Write true b z n blocks = advanced (z .kind) (z .pointer) (min (blocks * b) n)
-landedBy CommandKind.Write false b z n blocks = z .pointer
-landedBy CommandKind.Reset can b z n blocks = z .pointer
-landedBy CommandKind.Finish can b z n blocks = z .pointer
-landedBy CommandKind.Flush can b z n blocks = z .pointer
+abbrev pub landedBy : Movement → Bool → ℕ → DiskZone → ℕ → ℕ → ℕ
+landedBy Stays can b z n blocks = z .pointer
+landedBy Advances can b z n blocks = cond can (advanced (z .kind) (z .pointer) (min (blocks * b) n)) (z .pointer)
+landedBy ToStart can b z n blocks = z .pointer
+landedBy ToEnd can b z n blocks = z .pointer
 
 -- what the disk chooses: "Any command may fail"; the blocks that land first; a "mishap (alone or with a failure)"
 pub record Choice : Type 0 where
@@ -116,9 +114,9 @@ pub record Performed : Type 0 where
 
 abbrev pub performedBy : Bool → ℕ → Bool → DiskZone → Command → Choice → Performed
 performedBy true b quiet z c o =
-    record { succeeded = true; zone = moved z (pointerAfter z (c .kind) (c .length)) (z .condition) }
+    record { succeeded = true; zone = moved z (pointerAfter z (movementOf (c .kind)) (c .length)) (z .condition) }
 performedBy false b quiet z c o =
-    record { succeeded = false; zone = struck b z (landedBy (c .kind) (allows quiet z c) b z (c .length) (o .lands)) (o .mishap) }
+    record { succeeded = false; zone = struck b z (landedBy (movementOf (c .kind)) (allows quiet z c) b z (c .length) (o .lands)) (o .mishap) }
 
 -- the disk does a command
 unfoldable pub perform : ℕ → Bool → DiskZone → Command → Choice → Performed

@@ -16,8 +16,8 @@ use Rattle.types.specs.Kinds.{ofKind}
 use Rattle.types.specs.Numbers.{answerNumber}
 use Rattle.table.specs.Rows.{rowWidth}
 use Rattle.calls.specs.Calls.{outcomeOf}
-use Rattle.completion.specs.declared.Digest.{Digest}
-use Rattle.completion.specs.Completions.{Completion, digestOf, stored}
+use Rattle.completion.specs.declared.Effect.{Effect}
+use Rattle.completion.specs.Completions.{Completion, effectOf, stored}
 
 -- the word of this number in the table of kind k is none of the held command's row
 abbrev pub Elsewhere : Outstanding → FileKind → ℕ → Type 0
@@ -30,16 +30,16 @@ pub record CallKeeps (m : Mount) (o : Outcome) : Type 0 where
   pub refused : answerNumber (o .answer) ≢ 0 → o .mount ≡ m
 
 -- t is the table of kind k before
-pub record TableKeeps (m : Mount) (d : Digest) (k : FileKind) (t : List ℕ) : Type 0 where
+pub record TableKeeps (m : Mount) (d : Effect) (k : FileKind) (t : List ℕ) : Type 0 where
   pub length : length (stored k (d .store) t) ≡ length t
   pub words : (word : ℕ) → Elsewhere (m .outstanding) k word → getD (stored k (d .store) t) word 0 ≡ getD t word 0
   pub refused : answerNumber (d .outcome .answer) ≢ 0 → answerNumber (d .outcome .answer) ≢ 7 → stored k (d .store) t ≡ t
 
-pub record CompletionKeeps (m : Mount) (cnv seq : List ℕ) (d : Digest) : Type 0 where
+pub record CompletionKeeps (m : Mount) (cnv seq : List ℕ) (d : Effect) : Type 0 where
   pub volume : d .outcome .mount .volume ≡ m .volume
   pub refused : answerNumber (d .outcome .answer) ≢ 0 → answerNumber (d .outcome .answer) ≢ 7 → d .outcome .mount ≡ m
   pub tables : (k : FileKind) → TableKeeps m d k (ofKind k cnv seq)
 
 pub record Frame : Type 0 where
   pub calls : (m : Mount) (cnv seq : List ℕ) (k : FileKind) (n : ℕ) (x : Call) → CallKeeps m (outcomeOf m cnv seq k n x)
-  pub completions : (m : Mount) (cnv seq : List ℕ) (x : Completion) → CompletionKeeps m cnv seq (digestOf m cnv seq x)
+  pub completions : (m : Mount) (cnv seq : List ℕ) (x : Completion) → CompletionKeeps m cnv seq (effectOf m cnv seq x)

@@ -1,8 +1,7 @@
 pub mod Disk
-pub mod Story
+pub mod FileHistory
 pub mod Shows
-pub mod Report
-pub mod World
+pub mod System
 pub mod Claim
 pub mod Demand
 pub mod Frame

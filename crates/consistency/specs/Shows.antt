@@ -12,7 +12,7 @@ use Rattle.types.specs.declared.Condition.{Condition}
 use Rattle.types.specs.declared.Condition.the-variants.{Healthy, ReadOnly, Offline}
 use Rattle.zones.specs.declared.Zone.{Zone}
 use Rattle.zones.specs.Zone.{conventional, sequential}
-use Rattle.zones.specs.Report.{goodHeader, zonesOf}
+use Rattle.report.specs.Report.{goodHeader, zonesOf}
 use Rattle.consistency.specs.Disk.{DiskZone}
 
 -- "Type 1 (conventional)", "Types 2 and 3 (sequential)"

@@ -3,6 +3,14 @@ ghost use mathlib.Core.Path.{_≡_};
 ghost use lib.ListN.{take, drop};
 ghost use Rattle.crc32.specs.Crc.{Ruled, crcByte, crcFrom, crc32, superblockCrc};
 
+// The register at the start.
+const START: u32 = 0xffff_ffff;
+
+// Where a super block's checksum field stands, and where it ends.
+const FIELD_AT: usize = 4;
+
+const FIELD_END: usize = 8;
+
 // The remainder of each byte: eight one-bit steps from it.
 const TABLE: [u32; 256] = [
     0x00000000,
@@ -312,15 +320,15 @@ pub fn checksum(b: &[u8]) -> u32
     ensures { λ r. ⌜ r ≡ crc32 (now (b .entry)) ⌝ }
 {
     let table = remainders();
-    carry(&table, 0xffff_ffff, b)
+    carry(&table, START, b)
 }
 
-// The checksum of `b` with its checksum field, bytes 4 to 7, taken as zero.
+// The checksum of `b` with its checksum field taken as zero.
 pub fn superblock_checksum(b: &[u8]) -> u32
     ensures { λ r. ⌜ r ≡ superblockCrc (now (b .entry)) ⌝ }
 {
     let table = remainders();
-    let before = carry(&table, 0xffff_ffff, first(b, 4));
+    let before = carry(&table, START, first(b, FIELD_AT));
     let field = carry(&table, before, b"\0\0\0\0");
-    carry(&table, field, after(b, 8))
+    carry(&table, field, after(b, FIELD_END))
 }

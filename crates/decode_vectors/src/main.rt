@@ -3,8 +3,8 @@
 ghost use Prim.Native.Nat.{_+_, _≤_, _<_};
 use options::Options;
 use superblock::SuperBlock;
-use superblock::SuperCheck;
 use types::Refusal;
+use types::Verdict;
 
 // Words of the vectors' super blocks: uid 1000 and gid 100, or all ones in the place of one or both; perm 0o100604, and the tail's
 // first byte after it.
@@ -73,10 +73,10 @@ fn print_refusal(refusal: Refusal) {
     print_number(types::answers::refusal_number(refusal));
 }
 
-fn print_super(check: SuperCheck, fields: SuperBlock) {
+fn print_super(check: Verdict, fields: SuperBlock) {
     match check {
-        SuperCheck::Good => print_fields(fields),
-        SuperCheck::Bad(refusal) => print_refusal(refusal),
+        Verdict::Passed => print_fields(fields),
+        Verdict::Refused(refusal) => print_refusal(refusal),
     }
 }
 

@@ -1,4 +1,3 @@
+pub mod Filling
 pub mod Mounted
-pub mod Runs
 pub mod Tables
-pub mod Turns

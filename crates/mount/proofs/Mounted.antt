@@ -1,138 +1,140 @@
--- What a mount that is not refused tells, and what a refused one leaves.
+-- What a mount that is not refused tells, and what gives it.
 -- Assumes nothing.
 use mathlib.Core.Path.{_≡_, refl, ap, _∙_, sym}
-use mathlib.Core.List.{List, [], _∷_}
-use mathlib.Core.Bool.{Bool, true, false, not, _||_}
-use Prim.Native.Nat.{ℕ, _+_, _≤_, _<_}
+use mathlib.Core.List.{List}
+use mathlib.Core.Bool.{Bool, true, false, not}
+use Prim.Native.Nat.{ℕ, _≤_}
 use native.Mathlib.Omega.{arith}
 use borrow.Author.Tests.{ltb-false, not-false, le-ltb}
-use lib.ListN.{length, drop, getD}
+use lib.ListN.{length}
 use lib.Dec.{ltb}
 use Rattle.types.specs.Blocks.{blockSectors, goodBlock}
-use Rattle.types.specs.declared.Refusal.{Refusal}
+use Rattle.types.specs.Verdicts.{refuse, andThen}
+use Rattle.types.specs.declared.Refusal.the-variants.{BadBlock, BadOptions, TooFewRows}
+use Rattle.types.specs.declared.Verdict.{Verdict}
+use Rattle.types.specs.declared.Verdict.the-variants as verdict
 use Rattle.types.specs.declared.ErrorPolicy.{ErrorPolicy}
 use Rattle.types.specs.declared.Mount.{Mount}
 use Rattle.types.specs.declared.MountAnswer.{MountAnswer}
-use Rattle.types.specs.declared.Row.{Row}
-use Rattle.types.specs.Mounts.{emptyMount}
 use Rattle.types.specs.declared.MountAnswer.the-variants.{Refused, Mounted}
-use Rattle.types.proofs.Blocks.{IsBlock, small, large, is-block}
 use Rattle.types.proofs.Tests.{or-left, or-right}
-use Rattle.table.specs.declared.Slot.the-variants.{Good}
-use Rattle.table.specs.Rows.{rowsLent, rowAt}
+use Rattle.types.proofs.VerdictLaws.{check-passed, check-passes, then-passed, then-passes}
+use Rattle.table.specs.Rows.{rowsLent}
 use Rattle.superblock.specs.declared.SuperRead.{SuperRead}
 use Rattle.superblock.specs.SuperBlock.{superRead}
 use Rattle.options.specs.Options.{optionsOf}
-use Rattle.superblock.specs.declared.SuperCheck.{SuperCheck}
-use Rattle.superblock.specs.declared.SuperCheck.the-variants as super
 use Rattle.options.specs.declared.Options.{Options}
 use Rattle.options.specs.declared.Options.the-variants as options
-use Rattle.zones.specs.declared.ReportCheck.{ReportCheck}
-use Rattle.zones.specs.declared.ReportCheck.the-variants as report
-use Rattle.zones.specs.Report.{zonesOf, reportCheck}
-use Rattle.zones.specs.Told.{Framed, AllSound}
-use Rattle.zones.proofs.Laws.{GoodReport, report-told, framed, all-sound, sound-next, zones-next}
-use Rattle.mount.specs.Files.{cnvRows, seqRows}
-use Rattle.mount.specs.Mount.{refuse, checkSuper, checkOptions, checkReport, fileZones, tooFew, fitAnswer, reportAnswer, answerOf, policyOf, mountOf, tableAfter, aggregated, mountAnswer, mountOutcome}
-use Rattle.mount.specs.Fill.{fill}
-use Rattle.mount.specs.Walk.{Fits}
-use Rattle.mount.proofs.Tables.{filled-row, fill-length}
+use Rattle.files.specs.declared.Walk.{Walk}
+use Rattle.files.specs.Files.{cnvRows, seqRows}
+use Rattle.files.specs.Walk.{begun, walked, cnvFiles}
+use Rattle.files.proofs.Walks.{cnv-count, seq-count}
+use Rattle.report.specs.Report.{zonesOf, reportCheck}
+use Rattle.report.proofs.Laws.{report-told, framed, all-bounded}
+use Rattle.mount.specs.Mount.{badOptions, fileZones, tooFew, openingCheck, filesCheck, mountCheck, answerFor, mountAnswerOf, policyOf, mountOf, tableAfter, aggregated, mountAnswer, mountOutcome}
+use Rattle.mount.specs.Facts.{Fits}
 
--- a block has at least one sector
-pub block-positive : (block : ℕ) → goodBlock block ≡ true → 0 < blockSectors block
-block-positive block h = by (is-block block h)
-  where
-    by : {k : ℕ} → IsBlock k → 0 < blockSectors k
-    by small = omega arith
-    by large = omega arith
+-- THE CHECKS, passed
 
--- the files of a good report are sound
-pub report-sound : (unit : ℕ) (b : List ℕ) → reportCheck unit b ≡ report.Good → Framed b × AllSound (fileZones b)
-unfolding fileZones
-report-sound unit b h =
-    let good = report-told unit b h in
-    let frame = framed b (good .header) in
-    (frame, sound-next _ _ _ (zones-next b 0 _ refl (frame .some)) (all-sound unit 0 (zonesOf b) (good .zones)) .1)
+options-told : (o : Options) → badOptions o ≡ false → o ≡ options.Policy (policyOf o)
+options-told (options.Policy p) h = refl
+options-told options.Bad h = let z : _≡_ {A = ℕ} 0 1 = cc in absurd (omega arith)
 
--- EACH CHECK, passed
+pub opening-block : (block : ℕ) (found : Verdict) (o : Options) → openingCheck block found o ≡ verdict.Passed → goodBlock block ≡ true
+unfolding openingCheck
+opening-block block found o h = not-false (goodBlock block) (check-passed BadBlock h .0)
 
-passed : (t : Bool) (r : Refusal) (rest : MountAnswer) (c s : ℕ) → refuse t r rest ≡ Mounted c s → (t ≡ false) × (rest ≡ Mounted c s)
-unfolding refuse
-passed true r rest c s h = let z : _≡_ {A = ℕ} 0 1 = cc in absurd (omega arith)
-passed false r rest c s h = (refl, h)
+-- an answer of 0 comes after checks that found nothing
+answered : (v : Verdict) (x y c s : ℕ) → answerFor v x y ≡ Mounted c s → (v ≡ verdict.Passed) × (x ≡ c) × (y ≡ s)
+unfolding answerFor
+answered verdict.Passed x y c s h = (refl, cc, cc)
+answered (verdict.Refused r) x y c s h = let z : _≡_ {A = ℕ} 0 1 = cc in absurd (omega arith)
 
-super-passed : (k : SuperCheck) (rest : MountAnswer) (c s : ℕ) → checkSuper k rest ≡ Mounted c s → (k ≡ super.Good) × (rest ≡ Mounted c s)
-unfolding checkSuper
-super-passed super.Good rest c s h = (refl, h)
-super-passed (super.Bad r) rest c s h = let z : _≡_ {A = ℕ} 0 1 = cc in absurd (omega arith)
+-- the walk has counted the files where the report is good, and where it is not they don't matter
+counted : (v : Verdict) (x y x′ y′ cnvRoom seqRoom : ℕ) → (v ≡ verdict.Passed → (x ≡ x′) × (y ≡ y′))
+    → answerFor (andThen v (refuse (tooFew cnvRoom seqRoom x y) TooFewRows verdict.Passed)) x y
+    ≡ answerFor (andThen v (refuse (tooFew cnvRoom seqRoom x′ y′) TooFewRows verdict.Passed)) x′ y′
+unfolding answerFor andThen
+counted verdict.Passed x y x′ y′ cnvRoom seqRoom h = rw (h refl .0, h refl .1)
+counted (verdict.Refused r) x y x′ y′ cnvRoom seqRoom h = refl
 
-options-passed : (o : Options) (rest : MountAnswer) (c s : ℕ) → checkOptions o rest ≡ Mounted c s → (o ≡ options.Policy (policyOf o)) × (rest ≡ Mounted c s)
-unfolding checkOptions
-options-passed (options.Policy p) rest c s h = (refl, h)
-options-passed options.Bad rest c s h = let z : _≡_ {A = ℕ} 0 1 = cc in absurd (omega arith)
-
-report-passed : (k : ReportCheck) (rest : MountAnswer) (c s : ℕ) → checkReport k rest ≡ Mounted c s → (k ≡ report.Good) × (rest ≡ Mounted c s)
-unfolding checkReport
-report-passed report.Good rest c s h = (refl, h)
-report-passed (report.Bad r) rest c s h = let z : _≡_ {A = ℕ} 0 1 = cc in absurd (omega arith)
+pub files-answer : (block : ℕ) (aggregate : Bool) (b : List ℕ) (cnvRoom seqRoom : ℕ) (found : Verdict) (w : Walk)
+    → found ≡ reportCheck (blockSectors block) b → (found ≡ verdict.Passed → w ≡ walked aggregate begun (zonesOf b))
+    → answerFor (andThen found (refuse (tooFew cnvRoom seqRoom (cnvFiles w) (w .seqs)) TooFewRows verdict.Passed)) (cnvFiles w) (w .seqs)
+    ≡ answerFor (filesCheck block aggregate b cnvRoom seqRoom) (length (cnvRows aggregate (fileZones b))) (length (seqRows (fileZones b)))
+unfolding filesCheck fileZones
+files-answer block aggregate b cnvRoom seqRoom found w e h =
+    let zs = zonesOf b in
+    counted found _ _ _ _ cnvRoom seqRoom (λ p. (ap cnvFiles (h p) ∙ cnv-count aggregate zs, ap (λ (w : Walk). w .seqs) (h p) ∙ seq-count aggregate zs))
+    ∙ rw e
 
 -- AN ANSWER OF 0
 
 -- what it tells, and what gives it
-pub record Accepted (block : ℕ) (check : SuperCheck) (parsed : Options) (aggregate : Bool) (b : List ℕ) (cnvRoom seqRoom c s : ℕ) : Type 0 where
+pub record Accepted (block : ℕ) (found : Verdict) (parsed : Options) (aggregate : Bool) (b : List ℕ) (cnvRoom seqRoom c s : ℕ) : Type 0 where
   pub unit : goodBlock block ≡ true
-  pub super : check ≡ super.Good
+  pub super : found ≡ verdict.Passed
   pub options : parsed ≡ options.Policy (policyOf parsed)
-  pub report : reportCheck (blockSectors block) b ≡ report.Good
+  pub report : reportCheck (blockSectors block) b ≡ verdict.Passed
   pub cnvs : c ≡ length (cnvRows aggregate (fileZones b))
   pub seqs : s ≡ length (seqRows (fileZones b))
   pub cnvFit : c ≤ cnvRoom
   pub seqFit : s ≤ seqRoom
 
-module _ (block : ℕ) (check : SuperCheck) (parsed : Options) (aggregate : Bool) (b : List ℕ) (cnvRoom seqRoom c s : ℕ) where
-  pub answer-told : answerOf block check parsed aggregate b cnvRoom seqRoom ≡ Mounted c s → Accepted block check parsed aggregate b cnvRoom seqRoom c s
-  unfolding answerOf reportAnswer fitAnswer
+module _ (block : ℕ) (found : Verdict) (parsed : Options) (aggregate : Bool) (b : List ℕ) (cnvRoom seqRoom c s : ℕ) where
+  pub answer-told : mountAnswerOf block found parsed aggregate b cnvRoom seqRoom ≡ Mounted c s → Accepted block found parsed aggregate b cnvRoom seqRoom c s
+  unfolding mountAnswerOf mountCheck openingCheck filesCheck
   answer-told h =
-      let one = passed _ _ _ c s h in
-      let two = super-passed check _ c s (one .1) in
-      let three = options-passed parsed _ c s (two .1) in
-      let four = report-passed _ _ c s (three .1) in
-      let five = passed _ _ _ c s (four .1) in
       let cs = length (cnvRows aggregate (fileZones b)) in
       let ss = length (seqRows (fileZones b)) in
-      let eq : _≡_ {A = MountAnswer} (Mounted cs ss) (Mounted c s) = five .1 in
+      let all = answered _ cs ss c s h in
+      let parts = then-passed _ (all .0) in
+      let one = check-passed BadBlock (parts .0) in
+      let two = then-passed found (one .1) in
+      let three = check-passed BadOptions (two .1) in
+      let four = then-passed _ (parts .1) in
+      let five = check-passed TooFewRows (four .1) in
       record {
         unit = not-false (goodBlock block) (one .0);
         super = two .0;
-        options = three .0;
+        options = options-told parsed (three .0);
         report = four .0;
-        cnvs = cc;
-        seqs = cc;
-        cnvFit = let e : cs ≡ c = cc in omega (arith, ltb-false cnvRoom cs (or-left (ltb cnvRoom cs) (ltb seqRoom ss) (five .0)));
-        seqFit = let e : ss ≡ s = cc in omega (arith, ltb-false seqRoom ss (or-right (ltb cnvRoom cs) (ltb seqRoom ss) (five .0)));
+        cnvs = sym (all .1);
+        seqs = sym (all .2);
+        cnvFit = omega (arith, all .1, ltb-false cnvRoom cs (or-left (ltb cnvRoom cs) (ltb seqRoom ss) (five .0)));
+        seqFit = omega (arith, all .2, ltb-false seqRoom ss (or-right (ltb cnvRoom cs) (ltb seqRoom ss) (five .0)));
       }
 
-  pub answer-given : Accepted block check parsed aggregate b cnvRoom seqRoom c s → answerOf block check parsed aggregate b cnvRoom seqRoom ≡ Mounted c s
-  unfolding answerOf reportAnswer fitAnswer refuse checkSuper checkOptions checkReport
+  pub answer-given : Accepted block found parsed aggregate b cnvRoom seqRoom c s → mountAnswerOf block found parsed aggregate b cnvRoom seqRoom ≡ Mounted c s
+  unfolding mountAnswerOf mountCheck openingCheck filesCheck answerFor
   answer-given a =
       let cs = length (cnvRows aggregate (fileZones b)) in
       let ss = length (seqRows (fileZones b)) in
       let wide : ltb cnvRoom cs ≡ false = le-ltb cnvRoom cs (omega (arith, a .cnvs, a .cnvFit)) in
       let deep : ltb seqRoom ss ≡ false = le-ltb seqRoom ss (omega (arith, a .seqs, a .seqFit)) in
-      rw (a .unit, a .super, a .options, a .report, wide, deep, a .cnvs, a .seqs)
+      let opening : openingCheck block found parsed ≡ verdict.Passed =
+      check-passes BadBlock (ap not (a .unit)) (then-passes (a .super) (check-passes BadOptions (ap badOptions (a .options)) refl)) in
+      let files : filesCheck block aggregate b cnvRoom seqRoom ≡ verdict.Passed =
+      then-passes (a .report) (check-passes TooFewRows (rw (wide, deep)) refl) in
+      rw (then-passes opening files, a .cnvs, a .seqs)
 
   -- so the rows can be stored
-  pub answer-fits : answerOf block check parsed aggregate b cnvRoom seqRoom ≡ Mounted c s → Fits aggregate b cnvRoom seqRoom
+  pub answer-fits : mountAnswerOf block found parsed aggregate b cnvRoom seqRoom ≡ Mounted c s → Fits aggregate b cnvRoom seqRoom
   answer-fits h =
       let a = answer-told h in
-      let good = report-sound (blockSectors block) b (a .report) in
-      record { frame = good .0; sound = good .1; cnvs = omega (arith, a .cnvs, a .cnvFit); seqs = omega (arith, a .seqs, a .seqFit) }
+      let good = report-told (blockSectors block) b (a .report) in
+      record {
+        frame = framed b (good .header);
+        bounded = all-bounded (blockSectors block) 0 (zonesOf b) (good .zones);
+        cnvs = omega (arith, a .cnvs, a .cnvFit);
+        seqs = omega (arith, a .seqs, a .seqFit);
+      }
 
 -- THE OUTCOME, from its parts as the code finds them
 pub outcome-is : (block : ℕ) (sb text b cnv seq : List ℕ)
     {read : SuperRead} {parsed : Options} {cnvs seqs : ℕ} {answer : MountAnswer} {policy : ErrorPolicy} {mount : Mount} {cnv′ seq′ : List ℕ}
     → read ≡ superRead sb → parsed ≡ optionsOf text → cnvs ≡ rowsLent (length cnv) → seqs ≡ rowsLent (length seq)
-    → answer ≡ answerOf block (read .check) parsed (read .fields .aggregate) b cnvs seqs
+    → answer ≡ mountAnswerOf block (read .check) parsed (read .fields .aggregate) b cnvs seqs
     → policy ≡ policyOf parsed → mount ≡ mountOf answer block (read .fields) policy
     → cnv′ ≡ tableAfter answer cnv (cnvRows (read .fields .aggregate) (fileZones b))
     → seq′ ≡ tableAfter answer seq (seqRows (fileZones b))
@@ -143,69 +145,15 @@ outcome-is block sb text b cnv seq {answer = answer} r p c s a q m t u =
     let answered : answer ≡ mountAnswer block sb text b cnv seq = cc in
     (answered, cc, cc, cc)
 
--- WHAT A MOUNT LEAVES
+-- AN OUTCOME OF 0, and what gives it
 
-module _ (block : ℕ) (sb text b cnv seq : List ℕ) where
-  -- a refused one: everything as before
-  pub refused-leaves : (r : Refusal) → mountOutcome block sb text b cnv seq .answer ≡ Refused r
-      → (mountOutcome block sb text b cnv seq .mount ≡ emptyMount) × (mountOutcome block sb text b cnv seq .cnv ≡ cnv) × (mountOutcome block sb text b cnv seq .seq ≡ seq)
-  unfolding mountOutcome mountOf tableAfter
-  refused-leaves r h = rw h (refl, refl, refl)
+module _ (block : ℕ) (sb text b cnv seq : List ℕ) (c s : ℕ) where
+  pub mounted-told : mountOutcome block sb text b cnv seq .answer ≡ Mounted c s
+      → Accepted block (superRead sb .check) (optionsOf text) (aggregated sb) b (rowsLent (length cnv)) (rowsLent (length seq)) c s
+  unfolding mountOutcome mountAnswer
+  mounted-told answered = answer-told block _ _ _ b _ _ c s answered
 
-  module _ (c s : ℕ) (answered : mountOutcome block sb text b cnv seq .answer ≡ Mounted c s) where
-    pub mounted-told : Accepted block (superRead sb .check) (optionsOf text) (aggregated sb) b (rowsLent (length cnv)) (rowsLent (length seq)) c s
-    unfolding mountOutcome mountAnswer
-    mounted-told = answer-told block _ _ _ b _ _ c s answered
-
-    -- its report: a good header, and every zone good where the one before it ended
-    pub mounted-report : GoodReport (blockSectors block) b
-    mounted-report = report-told (blockSectors block) b (mounted-told .report)
-
-    pub mounted-block : IsBlock block
-    mounted-block = is-block block (mounted-told .unit)
-
-    pub mounted-cnv : mountOutcome block sb text b cnv seq .cnv ≡ fill cnv (cnvRows (aggregated sb) (fileZones b))
-    unfolding mountOutcome tableAfter
-    mounted-cnv = rw answered
-
-    pub mounted-seq : mountOutcome block sb text b cnv seq .seq ≡ fill seq (seqRows (fileZones b))
-    unfolding mountOutcome tableAfter
-    mounted-seq = rw answered
-
-    -- row n of each table is row n of the list
-    pub mounted-cnv-row : (n : ℕ) (d : Row) → n < c → rowAt (mountOutcome block sb text b cnv seq .cnv) n ≡ Good (getD (cnvRows (aggregated sb) (fileZones b)) n d)
-    mounted-cnv-row n d h =
-        let t = mounted-told in
-        ap (λ (u : List ℕ). rowAt u n) mounted-cnv
-        ∙ filled-row cnv _ n d (omega (arith, t .cnvs)) (omega (arith, t .cnvs, t .cnvFit))
-
-    pub mounted-seq-row : (n : ℕ) (d : Row) → n < s → rowAt (mountOutcome block sb text b cnv seq .seq) n ≡ Good (getD (seqRows (fileZones b)) n d)
-    mounted-seq-row n d h =
-        let t = mounted-told in
-        ap (λ (u : List ℕ). rowAt u n) mounted-seq
-        ∙ filled-row seq _ n d (omega (arith, t .seqs)) (omega (arith, t .seqs, t .seqFit))
-
-  -- the tables stay as long
-  pub cnv-length : length (mountOutcome block sb text b cnv seq .cnv) ≡ length cnv
-  cnv-length = by (mountOutcome block sb text b cnv seq .answer) refl
-    where
-      by : (a : MountAnswer) → mountOutcome block sb text b cnv seq .answer ≡ a → length (mountOutcome block sb text b cnv seq .cnv) ≡ length cnv
-      by (Refused r) h = ap length (refused-leaves r h .1)
-      by (Mounted c s) h =
-          let t = mounted-told c s h in
-          ap length (mounted-cnv c s h) ∙ fill-length cnv _ (omega (arith, t .cnvs, t .cnvFit))
-
-  pub seq-length : length (mountOutcome block sb text b cnv seq .seq) ≡ length seq
-  seq-length = by (mountOutcome block sb text b cnv seq .answer) refl
-    where
-      by : (a : MountAnswer) → mountOutcome block sb text b cnv seq .answer ≡ a → length (mountOutcome block sb text b cnv seq .seq) ≡ length seq
-      by (Refused r) h = ap length (refused-leaves r h .2)
-      by (Mounted c s) h =
-          let t = mounted-told c s h in
-          ap length (mounted-seq c s h) ∙ fill-length seq _ (omega (arith, t .seqs, t .seqFit))
-
-  -- a mount is answered 0 where all this is so
-  pub mounted-given : (c s : ℕ) → Accepted block (superRead sb .check) (optionsOf text) (aggregated sb) b (rowsLent (length cnv)) (rowsLent (length seq)) c s
+  pub mounted-given : Accepted block (superRead sb .check) (optionsOf text) (aggregated sb) b (rowsLent (length cnv)) (rowsLent (length seq)) c s
       → mountOutcome block sb text b cnv seq .answer ≡ Mounted c s
   unfolding mountOutcome mountAnswer
-  mounted-given c s a = answer-given block _ _ _ b _ _ c s a
+  mounted-given a = answer-given block _ _ _ b _ _ c s a

@@ -1,8 +1,7 @@
--- A filled table: row after row stored gives it, its rows read back, and its length.
+-- A filled table: row after row stored gives it, and its rows read back.
 -- Assumes nothing.
 use mathlib.Core.Path.{_≡_, refl, ap, _∙_, sym}
 use mathlib.Core.List.{List, [], _∷_, _++_}
-use mathlib.Core.Logic.{_≢_}
 use Prim.Native.Nat.{ℕ, zero, suc, _+_, _*_, _≤_, _<_}
 use native.Mathlib.Nat.{zero-add}
 use native.Mathlib.Omega.{arith}
@@ -10,22 +9,28 @@ use lib.ListN.{length, drop, getD}
 use lib.Seq.{sets, sets-eq}
 use Rattle.types.specs.declared.Row.{Row}
 use Rattle.table.specs.declared.Slot.the-variants.{Good}
-use Rattle.table.specs.Rows.{rowWidth, rowsLent, rowWords, rowAt, setRow}
+use Rattle.table.specs.Rows.{rowWidth, rowsLent, rowAt, setRow}
 use Rattle.table.proofs.Laws.{setRow-length, rowAt-same, rowAt-other}
-use Rattle.mount.specs.Fill.{words, fill}
-use Rattle.mount.specs.Walk.{fillFrom}
+use Rattle.mount.specs.Fill.{rowsWords, fill}
 
--- THE ROWS STORED
+-- THE ROWS STORED, one after the other from number i on
+unfoldable pub fillFrom : List ℕ → ℕ → List Row → List ℕ
+fillFrom t i [] = t
+fillFrom t i (r ∷ rs) = fillFrom (setRow t i r) (i + 1) rs
 
-fill-sets : (t : List ℕ) (i : ℕ) (rows : List Row) → fillFrom t i rows ≡ sets t (i * rowWidth) (words rows)
-unfolding fillFrom words setRow
+pub fill-next : (t : List ℕ) (i : ℕ) (r : Row) (rs : List Row) → fillFrom t i (r ∷ rs) ≡ fillFrom (setRow t i r) (i + 1) rs
+unfolding fillFrom
+fill-next t i r rs = refl
+
+fill-sets : (t : List ℕ) (i : ℕ) (rows : List Row) → fillFrom t i rows ≡ sets t (i * rowWidth) (rowsWords rows)
+unfolding fillFrom rowsWords setRow
 fill-sets t i [] = refl
 fill-sets t i (r ∷ rs) =
     let next : (i + 1) * 5 ≡ suc (suc (suc (suc (suc (i * 5))))) = omega arith in
     fill-sets (setRow t i r) (i + 1) rs ∙ rw next
 
-words-length : (rows : List Row) → length (words rows) ≡ length rows * rowWidth
-unfolding words
+words-length : (rows : List Row) → length (rowsWords rows) ≡ length rows * rowWidth
+unfolding rowsWords
 words-length [] = refl
 words-length (r ∷ rs) = omega (arith, words-length rs)
 
@@ -34,8 +39,8 @@ pub fill-from : (t : List ℕ) (rows : List Row) → length rows ≤ rowsLent (l
 unfolding fill
 fill-from t rows h =
     fill-sets t 0 rows
-    ∙ sets-eq (words rows) t 0 (omega (arith, words-length rows))
-    ∙ ap (λ (n : ℕ). words rows ++ drop n t) (zero-add (length (words rows)) ∙ words-length rows)
+    ∙ sets-eq (rowsWords rows) t 0 (omega (arith, words-length rows))
+    ∙ ap (λ (n : ℕ). rowsWords rows ++ drop n t) (zero-add (length (rowsWords rows)) ∙ words-length rows)
 
 -- ITS ROWS
 
@@ -60,13 +65,3 @@ filled-row t rows n d h f =
     ap (λ (u : List ℕ). rowAt u n) (sym (fill-from t rows f))
     ∙ ap (rowAt (fillFrom t 0 rows)) (sym (zero-add n))
     ∙ from-row t 0 rows n d h (omega arith)
-
--- ITS LENGTH
-
-from-length : (t : List ℕ) (i : ℕ) (rows : List Row) → length (fillFrom t i rows) ≡ length t
-unfolding fillFrom
-from-length t i [] = refl
-from-length t i (r ∷ rs) = from-length (setRow t i r) (i + 1) rs ∙ setRow-length t i r
-
-pub fill-length : (t : List ℕ) (rows : List Row) → length rows ≤ rowsLent (length t) → length (fill t rows) ≡ length t
-fill-length t rows f = ap length (sym (fill-from t rows f)) ∙ from-length t 0 rows

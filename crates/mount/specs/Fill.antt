@@ -6,10 +6,10 @@ use Rattle.types.specs.declared.Row.{Row}
 use Rattle.table.specs.Rows.{rowWidth, rowWords}
 
 -- the words of rows, one row after the other
-unfoldable pub words : List Row → List ℕ
-words [] = []
-words (r ∷ rs) = rowWords r ++ words rs
+unfoldable pub rowsWords : List Row → List ℕ
+rowsWords [] = []
+rowsWords (r ∷ rs) = rowWords r ++ rowsWords rs
 
 -- the table with these rows first, and after them as it was
 unfoldable pub fill : List ℕ → List Row → List ℕ
-fill t rows = words rows ++ drop (length rows * rowWidth) t
+fill t rows = rowsWords rows ++ drop (length rows * rowWidth) t

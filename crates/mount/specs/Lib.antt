@@ -1,4 +1,3 @@
-pub mod Files
+pub mod Facts
 pub mod Fill
 pub mod Mount
-pub mod Walk

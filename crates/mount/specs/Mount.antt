@@ -1,12 +1,15 @@
--- What a mount gives: its answer, the mount value, and both tables. "Mount checks run 20 to 30."
+-- What a mount gives: its answer, the mount value, and both tables.
 use Prim.Native.Nat.{ℕ}
 use mathlib.Core.List.{List}
 use mathlib.Core.Bool.{Bool, true, false, not, _||_}
 use lib.ListN.{length, drop}
 use lib.Dec.{ltb}
 use Rattle.types.specs.Blocks.{blockSectors, goodBlock}
-use Rattle.types.specs.declared.Refusal.{Refusal}
+use Rattle.types.specs.Verdicts.{refuse, andThen}
+use Rattle.types.specs.Mounts.{emptyMount}
 use Rattle.types.specs.declared.Refusal.the-variants.{BadBlock, BadOptions, TooFewRows}
+use Rattle.types.specs.declared.Verdict.{Verdict}
+use Rattle.types.specs.declared.Verdict.the-variants as verdict
 use Rattle.types.specs.declared.Row.{Row}
 use Rattle.types.specs.declared.ErrorPolicy.{ErrorPolicy}
 use Rattle.types.specs.declared.ErrorPolicy.the-variants.{RemountRo}
@@ -14,39 +17,22 @@ use Rattle.types.specs.declared.Outstanding.the-variants.{Idle}
 use Rattle.types.specs.declared.Mount.{Mount}
 use Rattle.types.specs.declared.MountAnswer.{MountAnswer}
 use Rattle.types.specs.declared.MountAnswer.the-variants.{Refused, Mounted}
-use Rattle.types.specs.Mounts.{emptyMount}
 use Rattle.table.specs.Rows.{rowsLent}
 use Rattle.superblock.specs.declared.SuperBlock.{SuperBlock}
-use Rattle.superblock.specs.declared.SuperCheck.{SuperCheck}
-use Rattle.superblock.specs.declared.SuperCheck.the-variants as super
 use Rattle.superblock.specs.SuperBlock.{superRead}
 use Rattle.options.specs.declared.Options.{Options}
 use Rattle.options.specs.declared.Options.the-variants as options
 use Rattle.options.specs.Options.{optionsOf}
 use Rattle.zones.specs.declared.Zone.{Zone}
-use Rattle.zones.specs.declared.ReportCheck.{ReportCheck}
-use Rattle.zones.specs.declared.ReportCheck.the-variants as report
-use Rattle.zones.specs.Report.{zonesOf, reportCheck}
-use Rattle.mount.specs.Files.{cnvRows, seqRows}
+use Rattle.files.specs.Files.{cnvRows, seqRows}
+use Rattle.report.specs.Report.{zonesOf, reportCheck}
 use Rattle.mount.specs.Fill.{fill}
 
--- ---- the checks, in order: what one of them refuses, or what the rest says
+-- ---- the checks
 
-unfoldable pub refuse : Bool → Refusal → MountAnswer → MountAnswer
-refuse true r rest = Refused r
-refuse false r rest = rest
-
-unfoldable pub checkSuper : SuperCheck → MountAnswer → MountAnswer
-checkSuper super.Good rest = rest
-checkSuper (super.Bad r) rest = Refused r
-
-unfoldable pub checkOptions : Options → MountAnswer → MountAnswer
-checkOptions (options.Policy p) rest = rest
-checkOptions options.Bad rest = Refused BadOptions
-
-unfoldable pub checkReport : ReportCheck → MountAnswer → MountAnswer
-checkReport report.Good rest = rest
-checkReport (report.Bad r) rest = Refused r
+abbrev pub badOptions : Options → Bool
+badOptions (options.Policy p) = false
+badOptions options.Bad = true
 
 -- "Zone 0 never"
 unfoldable pub fileZones : List ℕ → List Zone
@@ -56,26 +42,32 @@ fileZones b = drop 1 (zonesOf b)
 abbrev pub tooFew : ℕ → ℕ → ℕ → ℕ → Bool
 tooFew cnvRoom seqRoom cnvs seqs = ltb cnvRoom cnvs || ltb seqRoom seqs
 
--- 30, with room for so many rows of each kind
-unfoldable pub fitAnswer : Bool → List Zone → ℕ → ℕ → MountAnswer
-fitAnswer aggregate zs cnvRoom seqRoom =
-    refuse (tooFew cnvRoom seqRoom (length (cnvRows aggregate zs)) (length (seqRows zs))) TooFewRows
-    (Mounted (length (cnvRows aggregate zs)) (length (seqRows zs)))
+-- 20 to 27, with what was found of the super block
+unfoldable pub openingCheck : ℕ → Verdict → Options → Verdict
+openingCheck block found options =
+    refuse (not (goodBlock block)) BadBlock (andThen found (refuse (badOptions options) BadOptions verdict.Passed))
 
--- 28 to 30
-unfoldable pub reportAnswer : ℕ → Bool → List ℕ → ℕ → ℕ → MountAnswer
-reportAnswer block aggregate b cnvRoom seqRoom =
-    checkReport (reportCheck (blockSectors block) b) (fitAnswer aggregate (fileZones b) cnvRoom seqRoom)
+-- 28 to 30, with room for so many rows of each kind
+unfoldable pub filesCheck : ℕ → Bool → List ℕ → ℕ → ℕ → Verdict
+filesCheck block aggregate b cnvRoom seqRoom =
+    andThen (reportCheck (blockSectors block) b)
+    (refuse (tooFew cnvRoom seqRoom (length (cnvRows aggregate (fileZones b))) (length (seqRows (fileZones b)))) TooFewRows verdict.Passed)
 
--- 20 to 30, from the findings on super block and options
-unfoldable pub answerOf : ℕ → SuperCheck → Options → Bool → List ℕ → ℕ → ℕ → MountAnswer
-answerOf block super options aggregate b cnvRoom seqRoom =
-    refuse (not (goodBlock block)) BadBlock
-    (checkSuper super
-    (checkOptions options
-    (reportAnswer block aggregate b cnvRoom seqRoom)))
+-- "Mount checks run 20 to 30."
+unfoldable pub mountCheck : ℕ → Verdict → Options → Bool → List ℕ → ℕ → ℕ → Verdict
+mountCheck block found options aggregate b cnvRoom seqRoom =
+    andThen (openingCheck block found options) (filesCheck block aggregate b cnvRoom seqRoom)
 
 -- ---- what it gives
+
+-- the refusal, or the numbers of files
+unfoldable pub answerFor : Verdict → ℕ → ℕ → MountAnswer
+answerFor verdict.Passed cnvs seqs = Mounted cnvs seqs
+answerFor (verdict.Refused x) cnvs seqs = Refused x
+
+unfoldable pub mountAnswerOf : ℕ → Verdict → Options → Bool → List ℕ → ℕ → ℕ → MountAnswer
+mountAnswerOf block found options aggregate b cnvRoom seqRoom =
+    answerFor (mountCheck block found options aggregate b cnvRoom seqRoom) (length (cnvRows aggregate (fileZones b))) (length (seqRows (fileZones b)))
 
 -- bad options have none; the mount is refused then
 abbrev pub policyOf : Options → ErrorPolicy
@@ -84,7 +76,7 @@ policyOf options.Bad = RemountRo
 
 -- the mount value: nothing is outstanding, and it is not read-only
 unfoldable pub mountOf : MountAnswer → ℕ → SuperBlock → ErrorPolicy → Mount
-mountOf (Refused r) block fields policy = emptyMount
+mountOf (Refused x) block fields policy = emptyMount
 mountOf (Mounted cnvs seqs) block fields policy =
     record {
       volume = record {
@@ -103,7 +95,7 @@ mountOf (Mounted cnvs seqs) block fields policy =
 
 -- a refused mount changes nothing
 unfoldable pub tableAfter : MountAnswer → List ℕ → List Row → List ℕ
-tableAfter (Refused r) t rows = t
+tableAfter (Refused x) t rows = t
 tableAfter (Mounted cnvs seqs) t rows = fill t rows
 
 pub record Mounting : Type 0 where
@@ -119,7 +111,7 @@ aggregated superblock = superRead superblock .fields .aggregate
 module _ (block : ℕ) (superblock options report cnv seq : List ℕ) where
   unfoldable pub mountAnswer : MountAnswer
   mountAnswer =
-      answerOf block (superRead superblock .check) (optionsOf options) (aggregated superblock) report (rowsLent (length cnv)) (rowsLent (length seq))
+      mountAnswerOf block (superRead superblock .check) (optionsOf options) (aggregated superblock) report (rowsLent (length cnv)) (rowsLent (length seq))
 
   unfoldable pub mountOutcome : Mounting
   mountOutcome =

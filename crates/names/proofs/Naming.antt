@@ -4,25 +4,24 @@ use Prim.Native.Nat.{ℕ, zero, suc, _+_, _-_, _≤_, _<_}
 use native.Mathlib.Omega.{arith}
 use native.Mathlib.Decide.{decLe}
 use native.Mathlib.Nat.{lt-of-not-le}
-use mathlib.Core.Path.{_≡_, refl, sym, _∙_, ap, subst}
+use mathlib.Core.Path.{_≡_, refl, sym, _∙_, ap}
 use mathlib.Core.Bool.{true, false, _&&_, false≢true}
 use mathlib.Core.List.{List, [], _∷_, _++_}
 use lib.ListN.{length, getD, take, drop, length-drop}
 use lib.Seq.{take-all}
 use lib.Dec.{eqb}
 use borrow.Author.Tests.{eqb-true, eq-eqb}
-use Rattle.text.specs.Text.{decimal, same}
+use Rattle.text.specs.Text.{decimal}
 use Rattle.text.proofs.Decimal.{decimal-same}
-use Rattle.text.proofs.Same.{same-refl, same-eq, not-same}
+use Rattle.text.proofs.Same.{same-refl, not-same}
 use Rattle.types.specs.declared.Volume.{Volume}
 use Rattle.types.specs.declared.FileKind.{FileKind}
 use Rattle.types.specs.declared.FileKind.the-variants.{Conventional, Sequential}
 use Rattle.types.specs.Blocks.{mostFiles}
 use Rattle.types.specs.Kinds.{filesOf}
-use Rattle.types.proofs.Tests.{both, and-left, and-right, cases}
-use Rattle.names.specs.declared.Name.{Name}
+use Rattle.types.proofs.Tests.{both, and-left, and-right}
 use Rattle.names.specs.declared.Name.the-variants.{Found, Nothing}
-use Rattle.names.specs.Names.{prefixOf, nameOf, fileNamed, orElse, named}
+use Rattle.names.specs.Names.{prefixOf, nameOf, fileNamed, named}
 
 -- THE FIRST FOUR BYTES
 
@@ -131,19 +130,6 @@ file-named k (suc i) n h = elim (decLe i n) [
       rw (not-same (nameOf k n) (nameOf k i) (λ e. let q : n ≡ i = name-number k n i e in omega arith)) (file-named k i n (lt-of-not-le p))
 ]
 
--- what is found has the name, and is one of them
-file-has : (k : FileKind) (files : ℕ) (name : List ℕ) (j : FileKind) (n : ℕ) → fileNamed k files name ≡ Found j n
-    → (k ≡ j) × ((name ≡ nameOf k n) × (n < files))
-unfolding fileNamed
-file-has k zero name j n e = absurd (let z : _≡_ {A = ℕ} 0 1 = cc in omega arith)
-file-has k (suc i) name j n e =
-    cases (same name (nameOf k i))
-    (λ s.
-    let q : Found k i ≡ Found j n = rw s at e in
-    let r : i ≡ n = cc in
-    (cc, rw (← r) (same-eq name (nameOf k i) s, omega arith)))
-    (λ s. let (p, (q, l)) = file-has k i name j n (rw s at e) in (p, (q, omega arith)))
-
 module _ (v : Volume) (name : List ℕ) where
   -- a text that is the name of none of the mount's files
   pub unnamed : ((k : FileKind) (n : ℕ) → n < filesOf k v → name ≡ nameOf k n → ⊥) → named v name ≡ Nothing
@@ -169,18 +155,3 @@ module _ (v : Volume) (name : List ℕ) where
       other Conventional Sequential i g q l = name-kind n i q
       other Sequential Conventional i g q l = name-kind i n (sym q)
       other Sequential Sequential i g q l = let s : n ≡ i = name-number Sequential n i q in omega arith
-
-  -- and the other way round: what is found by a name has it, and is a file of the mount
-  pub named-has : (k : FileKind) (n : ℕ) → named v name ≡ Found k n → (name ≡ nameOf k n) × (n < filesOf k v)
-  unfolding named
-  named-has k n e = first (fileNamed Conventional (v .conventional) name) refl e
-    where
-      of-kind : (j : FileKind) → fileNamed j (filesOf j v) name ≡ Found k n → (name ≡ nameOf k n) × (n < filesOf k v)
-      of-kind j q =
-          let (same, has) = file-has j (filesOf j v) name k n q in
-          subst (λ (j : FileKind). (name ≡ nameOf j n) × (n < filesOf j v)) same has
-
-      first : (x : Name) → fileNamed Conventional (v .conventional) name ≡ x → orElse x (fileNamed Sequential (v .sequential) name) ≡ Found k n
-          → (name ≡ nameOf k n) × (n < filesOf k v)
-      first (Found j i) f q = of-kind Conventional (f ∙ q)
-      first Nothing f q = of-kind Sequential q

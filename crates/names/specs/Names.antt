@@ -1,19 +1,16 @@
 -- Names: "Names are `cnv/` or `seq/` and a decimal without a leading zero: `seq/07` and `seq/1 ` match nothing."
-use Prim.Native.Nat.{ℕ, zero, suc, _<_}
-use mathlib.Core.Path.{_≡_}
-use mathlib.Core.List.{List, _++_}
+use Prim.Native.Nat.{ℕ, zero, suc}
+use mathlib.Core.List.{List, [], _∷_, _++_}
 use mathlib.Core.Bool.{cond}
 use Rattle.text.specs.Text.{ascii, same, decimal}
 use Rattle.types.specs.declared.Volume.{Volume}
 use Rattle.types.specs.declared.FileKind.{FileKind}
 use Rattle.types.specs.declared.FileKind.the-variants.{Conventional, Sequential}
-use Rattle.types.specs.Blocks.{mostFiles}
+use Rattle.types.specs.declared.Refusal.the-variants.{NoFile}
+use Rattle.types.specs.Codes.{kindCode}
+use Rattle.types.specs.Numbers.{refusalNumber}
 use Rattle.names.specs.declared.Name.{Name}
 use Rattle.names.specs.declared.Name.the-variants.{Found, Nothing}
-use Rattle.names.specs.declared.KindRead.{KindRead}
-use Rattle.names.specs.declared.KindRead.the-variants as kindRead
-use Rattle.names.specs.declared.NumberRead.{NumberRead}
-use Rattle.names.specs.declared.NumberRead.the-variants as numberRead
 
 -- "`cnv/` or `seq/`"
 abbrev pub prefixOf : FileKind → List ℕ
@@ -37,19 +34,11 @@ orElse Nothing other = other
 unfoldable pub named : Volume → List ℕ → Name
 named v name = orElse (fileNamed Conventional (v .conventional) name) (fileNamed Sequential (v .sequential) name)
 
--- ---- what the parts of a name tell, to whoever reads it
+-- what a name says, in numbers: 1, "no such file or name", or 0 with the kind's code and the number
+abbrev pub nameNumber : Name → ℕ
+nameNumber (Found k n) = 0
+nameNumber Nothing = refusalNumber NoFile
 
--- the first four bytes: the kind whose directory they name, or that they name none
-abbrev pub KindTells : List ℕ → KindRead → Type 0
-KindTells bytes (kindRead.Is k) = bytes ≡ prefixOf k
-KindTells bytes kindRead.Nothing = (k : FileKind) → bytes ≡ prefixOf k → ⊥
-
--- the rest: the number whose decimal it is, or that it is the decimal of no file's number
-abbrev pub NumberTells : List ℕ → NumberRead → Type 0
-NumberTells bytes (numberRead.Is n) = bytes ≡ decimal n
-NumberTells bytes numberRead.Nothing = (n : ℕ) → n < mostFiles → bytes ≡ decimal n → ⊥
-
--- what the reading of a name tells: the file that it names, or that it is the name of no file that any mount has
-abbrev pub NameTells : List ℕ → Name → Type 0
-NameTells name (Found k n) = name ≡ nameOf k n
-NameTells name Nothing = (k : FileKind) (n : ℕ) → n < mostFiles → name ≡ nameOf k n → ⊥
+abbrev pub nameValues : Name → List ℕ
+nameValues (Found k n) = kindCode k ∷ n ∷ []
+nameValues Nothing = []

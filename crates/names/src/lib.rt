@@ -1,7 +1,10 @@
 // What a name says: `cnv/` or `seq/`, and a decimal without a leading zero.
 ghost use mathlib.Core.List.{[], _∷_};
-ghost use Rattle.names.specs.Names.{KindTells, NumberTells, NameTells};
+ghost use Rattle.names.specs.Facts.{KindTells, NumberTells, NameTells};
 use types::FileKind;
+
+// The bytes of `cnv/` and of `seq/`.
+const PREFIX_BYTES: usize = 4;
 
 // What a name says: a file, or nothing.
 pub enum Name {
@@ -63,13 +66,13 @@ fn number_read(text: &[u8]) -> NumberRead
 pub fn name_read(name: &[u8]) -> Name
     ensures { λ r. ⌜ NameTells (now (name .entry)) r ⌝ }
 {
-    if name.len() < 4 {
+    if name.len() < PREFIX_BYTES {
         return Name::Nothing;
     }
     let KindRead::Is(kind) = kind_read(name[0], name[1], name[2], name[3]) else {
         return Name::Nothing;
     };
-    let NumberRead::Is(number) = number_read(&name[4..]) else {
+    let NumberRead::Is(number) = number_read(&name[PREFIX_BYTES..]) else {
         return Name::Nothing;
     };
     Name::Found(kind, number)

@@ -3,9 +3,12 @@ ghost use mathlib.Core.Path.{_≡_};
 ghost use mathlib.Core.List.{[], _∷_};
 ghost use Prim.Native.Nat.{ℕ, _≤_, _<_};
 ghost use lib.ListN.{length, getD};
-ghost use Rattle.options.specs.Options.{comma, pieceOf, afterPieces, optionsOf};
+ghost use Rattle.options.specs.Options.{comma, asks, pieceOf, afterPieces, optionsOf};
 use text::same_text;
 use types::ErrorPolicy;
+
+// A longer text is refused.
+const MOST_BYTES: usize = 255;
 
 // The error policy that a text of options asks for, or that it is no such text.
 pub enum Options {
@@ -13,23 +16,31 @@ pub enum Options {
     Bad,
 }
 
-// What a piece that isn't empty asks for.
+// One option: what it asks for where it is the piece, else what the others find.
+fn asks(piece: &[u8], option: &[u8], policy: ErrorPolicy, rest: Options) -> Options
+    ensures { λ r. ⌜ r ≡ asks (now (piece .entry)) (now (option .entry)) policy rest ⌝ }
+{
+    if same_text(piece, option) {
+        Options::Policy(policy)
+    } else {
+        rest
+    }
+}
+
+// What a piece that isn't empty asks for. The last option comes first: each is handed what those after it find.
 fn piece_of(piece: &[u8]) -> Options
     ensures { λ r. ⌜ r ≡ pieceOf (now (piece .entry)) ⌝ }
 {
-    if same_text(piece, b"errors=remount-ro") {
-        return Options::Policy(ErrorPolicy::RemountRo);
-    }
-    if same_text(piece, b"errors=zone-ro") {
-        return Options::Policy(ErrorPolicy::ZoneRo);
-    }
-    if same_text(piece, b"errors=zone-offline") {
-        return Options::Policy(ErrorPolicy::ZoneOffline);
-    }
-    if same_text(piece, b"errors=repair") {
-        return Options::Policy(ErrorPolicy::Repair);
-    }
-    Options::Bad
+    let rest = Options::Bad;
+    let rest = asks(piece, b"errors=repair", ErrorPolicy::Repair, rest);
+    let rest = asks(
+        piece,
+        b"errors=zone-offline",
+        ErrorPolicy::ZoneOffline,
+        rest,
+    );
+    let rest = asks(piece, b"errors=zone-ro", ErrorPolicy::ZoneRo, rest);
+    asks(piece, b"errors=remount-ro", ErrorPolicy::RemountRo, rest)
 }
 
 // The options after one more piece.
@@ -65,7 +76,7 @@ fn piece_length(text: &[u8]) -> usize
 pub fn read_options(text: &[u8]) -> Options
     ensures { λ r. ⌜ r ≡ optionsOf (now (text .entry)) ⌝ }
 {
-    if text.len() > 255 {
+    if text.len() > MOST_BYTES {
         return Options::Bad;
     }
     let mut so_far = Options::Policy(ErrorPolicy::RemountRo);

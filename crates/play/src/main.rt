@@ -3,10 +3,22 @@ ghost use mathlib.Core.Path.{_≡_};
 ghost use mathlib.Core.Bool.{true};
 ghost use Prim.Native.Nat.{_+_, _≤_};
 ghost use lib.ListN.{length};
+ghost use Rattle.tape_lines.specs.Facts.{lineRoom};
 use libc::STDERR_FILENO;
 use libc::STDIN_FILENO;
 use libc::STDOUT_FILENO;
+use tape::TABLE_WORDS;
 use tape::Turned;
+use tape_lines::LINE_ROOM;
+use tape_records::FAILED_BYTES;
+
+// The bytes of a tape that are read at once, with room for its first four records whole; and those of the lines that are written at once.
+const READ_BYTES: usize = 131072;
+
+const WRITE_BYTES: usize = 65536;
+
+// No record after the first four is longer.
+const LONGEST_RECORD: usize = FAILED_BYTES;
 
 // How far the input was read: the bytes that are there, whether it may go on, and whether it can't be read.
 pub struct Input {
@@ -68,15 +80,19 @@ fn fill(fd: i32, name: &[u8], b: &mut [u8], have: usize) -> Input
     input
 }
 
-// No record is longer than 66 bytes, so as many from `next` on hold a whole one.
+// As many bytes from `next` on as the longest record has hold a whole one.
 fn is_low(next: usize, have: usize) -> bool {
-    if have <= next { true } else { have - next < 66 }
+    if have <= next {
+        true
+    } else {
+        have - next < LONGEST_RECORD
+    }
 }
 
 // Whether the next record can be played: it stands whole among the bytes that are there, or they are the last, and
 // there is room for its line.
 fn is_ready(more: bool, next: usize, have: usize, ended: bool, to: usize, room: usize) -> bool
-    ensures { λ r. ⌜ (r ≡ true → to + 96 ≤ room) ⌝ }
+    ensures { λ r. ⌜ (r ≡ true → to + lineRoom ≤ room) ⌝ }
 {
     if have <= next {
         return false;
@@ -84,7 +100,7 @@ fn is_ready(more: bool, next: usize, have: usize, ended: bool, to: usize, room: 
     if room < to {
         return false;
     }
-    if room - to < 96 {
+    if room - to < LINE_ROOM {
         return false;
     }
     more & (ended | !is_low(next, have))
@@ -156,6 +172,17 @@ fn refill(fd: i32, name: &[u8], b: &mut [u8], t: Turned, have: usize) -> Playing
     }
 }
 
+// Writes the lines before `end`. Answers whether they could be written.
+fn write_lines(out: &[u8], end: usize) -> bool
+    requires { ⌜ end ≤ length (now out) ⌝ }
+{
+    let is_written = io::write_all(STDOUT_FILENO, &out[..end]);
+    if !is_written {
+        os::fail(b"standard output");
+    }
+    is_written
+}
+
 // The tape from the record on that comes next, with all lines so far written.
 fn written(t: Turned) -> Turned
     ensures { λ r. ⌜ r .to ≡ 0 ⌝ }
@@ -166,6 +193,31 @@ fn written(t: Turned) -> Turned
         more: t.more,
         next: t.next,
         mount,
+    }
+}
+
+// Reads on where there are too few bytes for the next record.
+fn read_on(
+    fd: i32,
+    name: &[u8],
+    b: &mut [u8],
+    t: Turned,
+    have: usize,
+    ended: bool,
+    is_written: bool,
+) -> Playing
+    requires { ⌜ (have ≤ length (now b)) × (t .to ≡ 0) ⌝ }
+    ensures { λ r. ⌜ (r .have ≤ length (now (b .entry))) × (r .turned .to ≡ 0) ⌝ }
+{
+    let next = t.next;
+    if t.more & is_written & !ended & is_low(next, have) {
+        return refill(fd, name, b, t, have);
+    }
+    Playing {
+        turned: t,
+        have,
+        ended,
+        going: t.more & is_written & (next < have),
     }
 }
 
@@ -187,21 +239,8 @@ fn play_some(
     let turned = p.turned;
     let t = play_block(&b[..have], turned, ended, cnv, seq, out);
     let end = t.to;
-    let next = t.next;
-    let is_written = io::write_all(STDOUT_FILENO, &out[..end]);
-    if !is_written {
-        os::fail(b"standard output");
-    }
-    let turned = written(t);
-    if t.more & is_written & !ended & is_low(next, have) {
-        return refill(fd, name, b, turned, have);
-    }
-    Playing {
-        turned,
-        have,
-        ended,
-        going: t.more & is_written & (next < have),
-    }
+    let is_written = write_lines(&out[..], end);
+    read_on(fd, name, b, written(t), have, ended, is_written)
 }
 
 // Plays a tape to its end. A proved loop has to end, and nothing says that the input does: so its turns are counted
@@ -228,25 +267,43 @@ fn play_on(
     }
 }
 
-// Plays the tape of an open file, with tables for as many files as there can be.
-fn play_file(fd: i32, name: &[u8]) {
-    let mut b = [0u8; 131072];
-    let mut out = [0u8; 65536];
-    let mut cnv = [0u64; 5110];
-    let mut seq = [0u64; 5110];
-    let input = fill(fd, name, &mut b, 0);
+// Reads a tape's first bytes, plays the records that open it, and then the others.
+fn play_tape(fd: i32, name: &[u8], b: &mut [u8], cnv: &mut [u64], seq: &mut [u64], out: &mut [u8])
+    requires { ⌜ lineRoom ≤ length (now out) ⌝ }
+{
+    let input = fill(fd, name, b, 0);
     if input.failed {
         return;
     }
     let have = input.have;
-    let turned = tape::open_tape(&b[..have], &mut cnv, &mut seq, &mut out, 0);
+    let turned = tape::open_tape(&b[..have], cnv, seq, out, 0);
     let p = Playing {
         turned,
         have,
         ended: !input.more,
         going: true,
     };
-    play_on(fd, name, p, &mut b, &mut cnv, &mut seq, &mut out);
+    play_on(fd, name, p, b, cnv, seq, out);
+}
+
+// Plays the tape of an open file, with tables for as many files as there can be.
+fn play_file(fd: i32, name: &[u8]) {
+    let mut b = [0u8; READ_BYTES];
+    let mut out = [0u8; WRITE_BYTES];
+    let mut cnv = [0u64; TABLE_WORDS];
+    let mut seq = [0u64; TABLE_WORDS];
+    play_tape(fd, name, &mut b, &mut cnv, &mut seq, &mut out);
+}
+
+// Plays the tape in the file of this name.
+fn play_named(name: &[u8]) {
+    let fd = os::open_read(name);
+    if fd < 0 {
+        os::fail(name);
+        return;
+    }
+    play_file(fd, name);
+    libc::close(fd);
 }
 
 fn help(fd: i32) {
@@ -275,11 +332,5 @@ fn main() {
         help(STDOUT_FILENO);
         return;
     }
-    let fd = os::open_read(&name[..n]);
-    if fd < 0 {
-        os::fail(&name[..n]);
-        return;
-    }
-    play_file(fd, &name[..n]);
-    libc::close(fd);
+    play_named(&name[..n]);
 }

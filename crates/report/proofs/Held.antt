@@ -7,9 +7,9 @@ use denote.Ref.{now}
 use denote.Signature.{namedLft}
 use denote.Struct.Declared.{Declared}
 use denote.Struct.Laws as LL
-use Rattle.zones.specs.Report.{zoneCount}
-use Rattle.zones.specs.Told.{Framed}
 use Rattle.report.specs.declared.Reader.{Reader}
+use Rattle.report.specs.Report.{zoneCount}
+use Rattle.report.specs.Facts.{Framed}
 use Rattle.report.proofs.Reader as T
 use Rattle.report.proofs.Reader.Laws as T′
 

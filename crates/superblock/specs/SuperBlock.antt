@@ -1,16 +1,17 @@
 -- The super block, "the first sector": its fields, when it is refused, and what it gives.
-use Prim.Native.Nat.{ℕ, _/_, _%_, _^_}
-use mathlib.Core.Bool.{Bool, true, false, cond, not, _&&_, _||_}
-use mathlib.Core.List.{List, [], _∷_}
+use Prim.Native.Nat.{ℕ, _-_, _/_, _%_, _^_}
+use mathlib.Core.Bool.{Bool, false, cond, not, _&&_, _||_}
+use mathlib.Core.List.{List, [], _∷_, _++_}
 use lib.ListN.{length, take, drop, replicate}
 use lib.Dec.{leb, eqb}
 use Rattle.types.specs.declared.Refusal.{Refusal}
 use Rattle.types.specs.declared.Refusal.the-variants.{SuperLength, SuperMagic, SuperChecksum, SuperFeatures, SuperOwner, SuperTail}
-use Rattle.wire.specs.Le.{le}
+use Rattle.types.specs.declared.Verdict.{Verdict}
+use Rattle.types.specs.declared.Verdict.the-variants.{Passed, Refused}
+use Rattle.types.specs.Verdicts.{refuse}
+use Rattle.wire.specs.Le.{le, little}
 use Rattle.crc32.specs.Crc.{superblockCrc}
 use Rattle.superblock.specs.declared.SuperBlock.{SuperBlock}
-use Rattle.superblock.specs.declared.SuperCheck.{SuperCheck}
-use Rattle.superblock.specs.declared.SuperCheck.the-variants.{Good, Bad}
 use Rattle.superblock.specs.declared.SuperRead.{SuperRead}
 
 -- THE LAYOUT
@@ -52,8 +53,18 @@ abbrev pub permAt : List ℕ → ℕ
 permAt b = le 4 b 104
 
 -- "108 to 4095"
+abbrev pub tailPlace : ℕ
+tailPlace = 108
+
 abbrev pub tailAt : List ℕ → List ℕ
-tailAt b = drop 108 b
+tailAt b = drop tailPlace b
+
+-- THE OTHER WAY ROUND: the bytes of a super block, from its checksum field, label (64 bytes), uuid, features, uid, gid and perm. The law
+-- `encoded` says that each then stands at its place.
+unfoldable pub encodeSuper : ℕ → List ℕ → List ℕ → ℕ → ℕ → ℕ → ℕ → List ℕ
+encodeSuper checksum label uuid features uid gid perm =
+    little 4 magic ++ (little 4 checksum ++ (label ++ (uuid ++ (little 8 features ++ (little 4 uid ++ (little 4 gid ++ (little 4 perm ++
+    replicate (superLength - tailPlace) 0)))))))
 
 -- THE FEATURES
 
@@ -109,20 +120,18 @@ nonzero (x ∷ xs) = not (eqb x 0) || nonzero xs
 abbrev pub nonzeroTail : List ℕ → Bool
 nonzeroTail b = nonzero (tailAt b)
 
--- a check that refuses, or else leaves the answer to the next ones
-unfoldable pub refuse : Bool → Refusal → SuperCheck → SuperCheck
-refuse true refusal next = Bad refusal
-refuse false refusal next = next
-
--- "super block length, magic, checksum", "features beyond bit 3; uid or gid in use and 0xFFFFFFFF; nonzero tail", in this order
-unfoldable pub superCheck : List ℕ → SuperCheck
-superCheck b =
-    refuse (wrongLength b) SuperLength
-    (refuse (wrongMagic b) SuperMagic
+-- "magic, checksum", "features beyond bit 3; uid or gid in use and 0xFFFFFFFF; nonzero tail", in this order
+abbrev pub fieldsCheck : List ℕ → Verdict
+fieldsCheck b =
+    refuse (wrongMagic b) SuperMagic
     (refuse (wrongChecksum b) SuperChecksum
     (refuse (unknownFeatures b) SuperFeatures
     (refuse (noOwner b) SuperOwner
-    (refuse (nonzeroTail b) SuperTail Good)))))
+    (refuse (nonzeroTail b) SuperTail Passed))))
+
+-- and "super block length" before them
+unfoldable pub superCheck : List ℕ → Verdict
+superCheck b = refuse (wrongLength b) SuperLength (fieldsCheck b)
 
 -- WHAT IT GIVES
 
@@ -149,12 +158,12 @@ abbrev pub noFields : SuperBlock
 noFields = record { aggregate = false; owner = 0; group = 0; mode = 0; uuid = replicate 16 0 }
 
 abbrev pub refusedFor : Refusal → SuperRead
-refusedFor refusal = record { check = Bad refusal; fields = noFields }
+refusedFor x = record { check = Refused x; fields = noFields }
 
-abbrev pub readAs : SuperCheck → List ℕ → SuperRead
-readAs Good b = record { check = Good; fields = fieldsOf b }
-readAs (Bad refusal) b = refusedFor refusal
+abbrev pub readAs : Verdict → List ℕ → SuperRead
+readAs Passed b = record { check = Passed; fields = fieldsOf b }
+readAs (Refused x) b = refusedFor x
 
--- the verdict, and the fields where it is good
+-- the verdict, and the fields where it is passed
 unfoldable pub superRead : List ℕ → SuperRead
 superRead b = readAs (superCheck b) b

@@ -2,8 +2,52 @@
 ghost use mathlib.Core.Path.{_≡_};
 ghost use Prim.Native.Nat.{_<_, _≤_};
 ghost use lib.ListN.{length, drop};
-ghost use Rattle.superblock.specs.SuperBlock.{featuresAt, uuidAt, bit, wrongMagic, wrongChecksum, unknownFeatures, noOwner, nonzero, idOf, modeOf, fieldsOf, refusedFor, superRead};
+ghost use Rattle.superblock.specs.SuperBlock.{featuresAt, uuidAt, tailPlace, bit, wrongMagic, wrongChecksum, unknownFeatures, noOwner, nonzero, idOf, modeOf, fieldsOf, fieldsCheck, refusedFor, readAs, superRead};
 use types::Refusal;
+use types::Verdict;
+use types::answers::refuse;
+
+// The bytes of a super block, and where its fields stand.
+pub const SUPER_BYTES: usize = 4096;
+
+const MAGIC_AT: usize = 0;
+
+const CHECKSUM_AT: usize = 4;
+
+const UUID_AT: usize = 72;
+
+const UUID_BYTES: usize = 16;
+
+const FEATURES_AT: usize = 88;
+
+const UID_AT: usize = 96;
+
+const GID_AT: usize = 100;
+
+const PERM_AT: usize = 104;
+
+const TAIL_AT: usize = 108;
+
+const MAGIC: u32 = 0x5A4F_4653;
+
+// The feature bits, and the first number with a bit beyond them.
+const AGGREGATE: u64 = 0;
+
+const HAS_UID: u64 = 1;
+
+const HAS_GID: u64 = 2;
+
+const HAS_PERM: u64 = 3;
+
+const BEYOND_FEATURES: u64 = 16;
+
+// An id that is nobody's.
+const NOBODY: u32 = 0xFFFF_FFFF;
+
+// Above the low nine bits of perm, and the mode without it.
+const MODE_LIMIT: u32 = 0o1000;
+
+const DEFAULT_MODE: u32 = 0o640;
 
 // What a good super block gives: whether conventional zones are aggregated, whose files they are, with which mode, and the
 // file system's uuid.
@@ -12,57 +56,52 @@ pub struct SuperBlock {
     pub owner: u32,
     pub group: u32,
     pub mode: u32,
-    pub uuid: [u8; 16],
-}
-
-pub enum SuperCheck {
-    Good,
-    Bad(Refusal),
+    pub uuid: [u8; UUID_BYTES],
 }
 
 // The verdict stands beside the fields, since an enum holds no array. A refusal has the fields all zero.
 pub struct SuperRead {
-    pub check: SuperCheck,
+    pub check: Verdict,
     pub fields: SuperBlock,
 }
 
 // Bit k of the features is set.
 fn has(b: &[u8], k: u64) -> bool
-    requires { ⌜ (96 ≤ length (now b)) × (k < 64) ⌝ }
+    requires { ⌜ (tailPlace ≤ length (now b)) × (k < 64) ⌝ }
     ensures { λ r. ⌜ r ≡ bit (featuresAt (now (b .entry))) k ⌝ }
 {
-    let features = wire::u64_at(b, 88);
+    let features = wire::u64_at(b, FEATURES_AT);
     (features >> k) % 2 == 1
 }
 
 fn wrong_magic(b: &[u8]) -> bool
-    requires { ⌜ 4 ≤ length (now b) ⌝ }
+    requires { ⌜ tailPlace ≤ length (now b) ⌝ }
     ensures { λ r. ⌜ r ≡ wrongMagic (now (b .entry)) ⌝ }
 {
-    wire::u32_at(b, 0) != 0x5A4F_4653
+    wire::u32_at(b, MAGIC_AT) != MAGIC
 }
 
 fn wrong_checksum(b: &[u8]) -> bool
-    requires { ⌜ 8 ≤ length (now b) ⌝ }
+    requires { ⌜ tailPlace ≤ length (now b) ⌝ }
     ensures { λ r. ⌜ r ≡ wrongChecksum (now (b .entry)) ⌝ }
 {
-    wire::u32_at(b, 4) != crc32::superblock_checksum(b)
+    wire::u32_at(b, CHECKSUM_AT) != crc32::superblock_checksum(b)
 }
 
 fn unknown_features(b: &[u8]) -> bool
-    requires { ⌜ 96 ≤ length (now b) ⌝ }
+    requires { ⌜ tailPlace ≤ length (now b) ⌝ }
     ensures { λ r. ⌜ r ≡ unknownFeatures (now (b .entry)) ⌝ }
 {
-    wire::u64_at(b, 88) >= 16
+    wire::u64_at(b, FEATURES_AT) >= BEYOND_FEATURES
 }
 
 // A uid or gid is in use and names nobody.
 fn no_owner(b: &[u8]) -> bool
-    requires { ⌜ 104 ≤ length (now b) ⌝ }
+    requires { ⌜ tailPlace ≤ length (now b) ⌝ }
     ensures { λ r. ⌜ r ≡ noOwner (now (b .entry)) ⌝ }
 {
-    (has(b, 1) & (wire::u32_at(b, 96) == 0xFFFF_FFFF))
-        | (has(b, 2) & (wire::u32_at(b, 100) == 0xFFFF_FFFF))
+    (has(b, HAS_UID) & (wire::u32_at(b, UID_AT) == NOBODY))
+        | (has(b, HAS_GID) & (wire::u32_at(b, GID_AT) == NOBODY))
 }
 
 // A byte from `from` on isn't zero.
@@ -88,28 +127,32 @@ fn id_of(used: bool, id: u32) -> u32
 fn mode_of(used: bool, perm: u32) -> u32
     ensures { λ r. ⌜ r ≡ modeOf used perm ⌝ }
 {
-    if used { perm % 512 } else { 0o640 }
+    if used {
+        perm % MODE_LIMIT
+    } else {
+        DEFAULT_MODE
+    }
 }
 
-fn uuid_of(b: &[u8]) -> [u8; 16]
-    requires { ⌜ 88 ≤ length (now b) ⌝ }
+fn uuid_of(b: &[u8]) -> [u8; UUID_BYTES]
+    requires { ⌜ tailPlace ≤ length (now b) ⌝ }
     ensures { λ r. ⌜ r ≡ uuidAt (now (b .entry)) ⌝ }
 {
-    let mut uuid = [0u8; 16];
-    for i in 0..16 {
-        uuid[i] = b[72 + i];
+    let mut uuid = [0u8; UUID_BYTES];
+    for i in 0..UUID_BYTES {
+        uuid[i] = b[UUID_AT + i];
     }
     uuid
 }
 
 fn fields_of(b: &[u8]) -> SuperBlock
-    requires { ⌜ 108 ≤ length (now b) ⌝ }
+    requires { ⌜ tailPlace ≤ length (now b) ⌝ }
     ensures { λ r. ⌜ r ≡ fieldsOf (now (b .entry)) ⌝ }
 {
-    let aggregate = has(b, 0);
-    let owner = id_of(has(b, 1), wire::u32_at(b, 96));
-    let group = id_of(has(b, 2), wire::u32_at(b, 100));
-    let mode = mode_of(has(b, 3), wire::u32_at(b, 104));
+    let aggregate = has(b, AGGREGATE);
+    let owner = id_of(has(b, HAS_UID), wire::u32_at(b, UID_AT));
+    let group = id_of(has(b, HAS_GID), wire::u32_at(b, GID_AT));
+    let mode = mode_of(has(b, HAS_PERM), wire::u32_at(b, PERM_AT));
     let uuid = uuid_of(b);
     SuperBlock {
         aggregate,
@@ -121,19 +164,46 @@ fn fields_of(b: &[u8]) -> SuperBlock
 }
 
 // A refusal, with no fields.
-fn refused(refusal: Refusal) -> SuperRead
-    ensures { λ r. ⌜ r ≡ refusedFor refusal ⌝ }
+fn refused(x: Refusal) -> SuperRead
+    ensures { λ r. ⌜ r ≡ refusedFor x ⌝ }
 {
     let fields = SuperBlock {
         aggregate: false,
         owner: 0,
         group: 0,
         mode: 0,
-        uuid: [0; 16],
+        uuid: [0; UUID_BYTES],
     };
     SuperRead {
-        check: SuperCheck::Bad(refusal),
+        check: Verdict::Refused(x),
         fields,
+    }
+}
+
+// The checks of the fields. The last comes first: each is handed what those after it find.
+fn check_fields(b: &[u8]) -> Verdict
+    requires { ⌜ tailPlace ≤ length (now b) ⌝ }
+    ensures { λ r. ⌜ r ≡ fieldsCheck (now (b .entry)) ⌝ }
+{
+    let rest = Verdict::Passed;
+    let rest = refuse(nonzero_from(b, TAIL_AT), Refusal::SuperTail, rest);
+    let rest = refuse(no_owner(b), Refusal::SuperOwner, rest);
+    let rest = refuse(unknown_features(b), Refusal::SuperFeatures, rest);
+    let rest = refuse(wrong_checksum(b), Refusal::SuperChecksum, rest);
+    refuse(wrong_magic(b), Refusal::SuperMagic, rest)
+}
+
+// The verdict with the fields, where it is passed.
+fn read_as(check: Verdict, b: &[u8]) -> SuperRead
+    requires { ⌜ tailPlace ≤ length (now b) ⌝ }
+    ensures { λ r. ⌜ r ≡ readAs check (now (b .entry)) ⌝ }
+{
+    match check {
+        Verdict::Passed => SuperRead {
+            check: Verdict::Passed,
+            fields: fields_of(b),
+        },
+        Verdict::Refused(x) => refused(x),
     }
 }
 
@@ -141,26 +211,8 @@ fn refused(refusal: Refusal) -> SuperRead
 pub fn read_superblock(b: &[u8]) -> SuperRead
     ensures { λ r. ⌜ r ≡ superRead (now (b .entry)) ⌝ }
 {
-    if b.len() != 4096 {
+    if b.len() != SUPER_BYTES {
         return refused(Refusal::SuperLength);
     }
-    if wrong_magic(b) {
-        return refused(Refusal::SuperMagic);
-    }
-    if wrong_checksum(b) {
-        return refused(Refusal::SuperChecksum);
-    }
-    if unknown_features(b) {
-        return refused(Refusal::SuperFeatures);
-    }
-    if no_owner(b) {
-        return refused(Refusal::SuperOwner);
-    }
-    if nonzero_from(b, 108) {
-        return refused(Refusal::SuperTail);
-    }
-    SuperRead {
-        check: SuperCheck::Good,
-        fields: fields_of(b),
-    }
+    read_as(check_fields(b), b)
 }

@@ -17,9 +17,8 @@ use Rattle.types.specs.declared.Access.the-variants as access
 use Rattle.types.specs.Codes.{conditionCode, accessCode}
 use Rattle.table.specs.declared.ConditionRead.the-variants as cr
 use Rattle.table.specs.declared.AccessRead.the-variants as ar
-use Rattle.table.specs.declared.Slot.{Slot}
 use Rattle.table.specs.declared.Slot.the-variants.{Good}
-use Rattle.table.specs.Rows.{rowWidth, rowsLent, rowWords, conditionRead, accessRead, slotOf, wordAt, rowAt, setRow}
+use Rattle.table.specs.Rows.{rowWidth, rowsLent, rowWords, conditionRead, accessRead, wordAt, rowAt, setRow}
 
 -- WORDS STORED IN A ROW, of any number
 
@@ -61,13 +60,13 @@ unfolding setRow
 setRow-length t i r = length-sets t (i * rowWidth) (rowWords r)
 
 -- a row stored word by word
-pub stored : (t : List ℕ) (i : ℕ) (r : Row) → setRow t i r ≡ set (set (set (set (set t (i * 5) (r .start)) (i * 5 + 1) (r .capacity)) (i * 5 + 2) (r .size)) (i * 5 + 3) (conditionCode (r .condition))) (i * 5 + 4) (accessCode (r .access))
+pub stored : (t : List ℕ) (i : ℕ) (r : Row) → setRow t i r ≡ set (set (set (set (set t (i * rowWidth) (r .start)) (i * rowWidth + 1) (r .capacity)) (i * rowWidth + 2) (r .size)) (i * rowWidth + 3) (conditionCode (r .condition))) (i * rowWidth + 4) (accessCode (r .access))
 unfolding setRow
 stored t i r =
-    let one : suc (i * 5) ≡ i * 5 + 1 = omega arith in
-    let two : suc (i * 5 + 1) ≡ i * 5 + 2 = omega arith in
-    let three : suc (i * 5 + 2) ≡ i * 5 + 3 = omega arith in
-    let four : suc (i * 5 + 3) ≡ i * 5 + 4 = omega arith in
+    let one : suc (i * rowWidth) ≡ i * rowWidth + 1 = omega arith in
+    let two : suc (i * rowWidth + 1) ≡ i * rowWidth + 2 = omega arith in
+    let three : suc (i * rowWidth + 2) ≡ i * rowWidth + 3 = omega arith in
+    let four : suc (i * rowWidth + 3) ≡ i * rowWidth + 4 = omega arith in
     rw (one, two, three, four)
 
 -- a word that is none of the row's, of another row or left over, is as before
@@ -75,8 +74,8 @@ pub word-outside : (t : List ℕ) (i j : ℕ) (r : Row) → (j / rowWidth ≡ i 
 unfolding setRow
 word-outside t i j r h = sets-outside (rowWords r) t (i * rowWidth) j (λ g. elsewhere g)
   where
-    elsewhere : i * 5 ≤ j → i * 5 + 5 ≤ j
-    elsewhere g = let d : j / 5 ≢ i = h in omega arith
+    elsewhere : i * rowWidth ≤ j → i * rowWidth + rowWidth ≤ j
+    elsewhere g = let d : j / rowWidth ≢ i = h in omega arith
 
 -- a row is its five words
 slot-of-words : (t u : List ℕ) (i j : ℕ) → ((k : ℕ) → k < rowWidth → wordAt t i k ≡ wordAt u j k) → rowAt t i ≡ rowAt u j
@@ -94,5 +93,5 @@ unfolding rowAt setRow
 rowAt-same t i r h =
     rw (word 0 (lit< tt), word 1 (lit< tt), word 2 (lit< tt), word 3 (lit< tt), word 4 (lit< tt), condition-back, access-back)
   where
-    word : (k : ℕ) → k < 5 → getD (sets t (i * 5) (rowWords r)) (i * 5 + k) 0 ≡ getD (rowWords r) k 0
-    word k g = sets-inside (rowWords r) t (i * 5) k g (omega arith)
+    word : (k : ℕ) → k < rowWidth → getD (sets t (i * rowWidth) (rowWords r)) (i * rowWidth + k) 0 ≡ getD (rowWords r) k 0
+    word k g = sets-inside (rowWords r) t (i * rowWidth) k g (omega arith)

@@ -10,7 +10,9 @@ use Rattle.types.specs.declared.Condition.{Condition}
 use Rattle.types.specs.declared.Condition.the-variants as condition
 use Rattle.types.specs.declared.Access.{Access}
 use Rattle.types.specs.declared.Access.the-variants as access
+use Rattle.types.specs.declared.Refusal.the-variants as refusal
 use Rattle.types.specs.Codes.{conditionCode, accessCode}
+use Rattle.types.specs.Numbers.{refusalNumber}
 use Rattle.table.specs.declared.Slot.{Slot}
 use Rattle.table.specs.declared.Slot.the-variants.{Good, Impossible}
 use Rattle.table.specs.declared.ConditionRead.{ConditionRead}
@@ -62,6 +64,15 @@ rowAt t i = slotOf (wordAt t i 0) (wordAt t i 1) (wordAt t i 2) (wordAt t i 3) (
 -- the table with a row at i
 unfoldable pub setRow : List ℕ → ℕ → Row → List ℕ
 setRow t i r = sets t (i * rowWidth) (rowWords r)
+
+-- a slot in numbers: 10, "mount value or tables impossible", or 0 with the row's five values
+abbrev pub slotNumber : Slot → ℕ
+slotNumber (Good r) = 0
+slotNumber Impossible = refusalNumber refusal.Impossible
+
+abbrev pub slotValues : Slot → List ℕ
+slotValues (Good r) = rowWords r
+slotValues Impossible = []
 
 -- "Healthy: .. access write"
 abbrev pub healthyRow : ℕ → ℕ → ℕ → Row

@@ -8,8 +8,16 @@ use types::Access;
 use types::Condition;
 use types::Row;
 
-// The words of a row.
+// The words of a row, and where they stand behind the first, its start.
 pub const ROW_WORDS: usize = 5;
+
+const CAPACITY: usize = 1;
+
+const SIZE: usize = 2;
+
+const CONDITION: usize = 3;
+
+const ACCESS: usize = 4;
 
 // What a row's words say: a row, or that a code is none of the codes.
 pub enum Slot {
@@ -18,13 +26,13 @@ pub enum Slot {
 }
 
 // What the word of a condition says.
-pub enum ConditionRead {
+enum ConditionRead {
     Is(Condition),
     Bad,
 }
 
 // What the word of an access says.
-pub enum AccessRead {
+enum AccessRead {
     Is(Access),
     Bad,
 }
@@ -100,7 +108,13 @@ pub fn row_at(t: &[u64], i: usize) -> Slot
     ensures { λ r. ⌜ r ≡ rowAt (now (t .entry)) i ⌝ }
 {
     let b = i * ROW_WORDS;
-    slot_of(t[b], t[b + 1], t[b + 2], t[b + 3], t[b + 4])
+    slot_of(
+        t[b],
+        t[b + CAPACITY],
+        t[b + SIZE],
+        t[b + CONDITION],
+        t[b + ACCESS],
+    )
 }
 
 // Stores a row at number `i`.
@@ -114,10 +128,10 @@ pub fn put_row(t: &mut [u64], i: usize, row: Row)
     let condition = types::codes::condition_code(c);
     let access = types::codes::access_code(a);
     t[b] = row.start;
-    t[b + 1] = row.capacity;
-    t[b + 2] = row.size;
-    t[b + 3] = condition;
-    t[b + 4] = access;
+    t[b + CAPACITY] = row.capacity;
+    t[b + SIZE] = row.size;
+    t[b + CONDITION] = condition;
+    t[b + ACCESS] = access;
 }
 
 // A file that is found healthy at mount.

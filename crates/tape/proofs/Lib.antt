@@ -1,4 +1,3 @@
-pub mod Opening
 pub mod Playing
 pub mod Stores
 pub mod Turns

@@ -5,19 +5,18 @@ use mathlib.Core.List.{List, [], _++_, append-assoc, append-nil}
 use mathlib.Core.Bool.{Bool, true, false, cond, false≢true, _&&_}
 use Prim.Native.Nat.{ℕ, zero, suc, _+_, _-_, _≤_, _<_}
 use native.Mathlib.Omega.{arith}
-use lib.Dec.{ltb, leb}
+use lib.Dec.{leb}
 use lib.ListN.{length, length-append}
 use lib.Seq.{sets, length-sets}
 use borrow.Author.Tests.{ltb-true, leb-true, leb-false, le-leb, lt-leb}
 use Rattle.types.proofs.Tests.{and-left, and-right, cases}
-use Rattle.records.specs.declared.Record.{Record}
-use Rattle.records.specs.declared.Record.the-variants.{OnFile, Good, Failed, Broken}
+use Rattle.tape_records.specs.declared.Record.{Record}
+use Rattle.tape_records.specs.declared.Record.the-variants.{OnFile, End, Broken}
 use Rattle.tape.specs.declared.Turned.{Turned}
-use Rattle.records.specs.Records.{recordAt}
-use Rattle.tape.specs.declared.Played.the-variants.{Written, TooShort}
-use Rattle.text.specs.Put.{Put, Fills}
-use Rattle.tape.specs.Tape.{State, Rest, Turn, turnOf, turnAt, openTurn, goesFurther, textFrom, textWith, playedInto}
-use Rattle.tape.specs.Told.{restOf, Takes}
+use Rattle.tape_records.specs.Records.{recordAt}
+use Rattle.text.specs.Facts.{Put, Fills}
+use Rattle.tape.specs.Tape.{State, Rest, turnOf, turnAt, openTurn, goesFurther, textFrom, textWith, playedTo, playedInto}
+use Rattle.tape.specs.Facts.{restOf, Takes}
 use Rattle.text.proofs.Stores.{then, nothing, sets-append}
 use Rattle.tape.proofs.Stores.{sets-out}
 
@@ -37,8 +36,8 @@ no-text (suc n) b r e = rw e
 -- a record after which the tape goes on isn't empty
 onward-by : (b : List ℕ) (at : ℕ) (s : State) (x : Record) → turnOf b at s x .rest .more ≡ true → at < turnOf b at s x .rest .next
 onward-by b at s (OnFile kind number x) e = omega arith
-onward-by b at s Good e = omega arith
-onward-by b at s Failed e = omega arith
+onward-by b at s (End true) e = omega arith
+onward-by b at s (End false) e = omega arith
 onward-by b at s Broken e = absurd (false≢true e)
 
 pub onward : (b : List ℕ) (at : ℕ) (s : State) → turnAt b at s .rest .more ≡ true → at < turnAt b at s .rest .next
@@ -50,7 +49,7 @@ onward b at s e = onward-by b at s (recordAt b at) e
 abbrev pub left : List ℕ → Rest → ℕ
 left b r = cond (r .more) (suc (length b - r .next)) 0
 
-pub less : (b : List ℕ) (r : Rest) → goesFurther b r ≡ true → left b (turnAt b (r .next) (r .state) .rest) < left b r
+less : (b : List ℕ) (r : Rest) → goesFurther b r ≡ true → left b (turnAt b (r .next) (r .state) .rest) < left b r
 less b r e =
     let inside : r .next < length b = ltb-true (r .next) (length b) (and-right (r .more) _ e) in
     rw (and-left (r .more) _ e) (by (turnAt b (r .next) (r .state) .rest .more) (λ h. omega (arith, inside, onward b (r .next) (r .state) h)))
@@ -59,6 +58,10 @@ less b r e =
         → cond t (suc (length b - turnAt b (r .next) (r .state) .rest .next)) 0 < suc (length b - r .next)
     by true f = omega (arith, f refl)
     by false f = omega arith
+
+pub fewer : {mid now cnv seq : List ℕ} {to : ℕ} (b : List ℕ) (r : Rest) (t : Turned) → goesFurther b r ≡ true
+    → Takes (turnAt b (r .next) (r .state)) mid now to t cnv seq → left b (restOf t cnv seq) < left b r
+fewer b r t e p = subst (λ (x : Rest). left b x < left b r) (sym (p .rest)) (less b r e)
 
 -- ---- what holds between records
 
@@ -153,13 +156,11 @@ tape-text {before} {mid} {now} {end = end} b cnv seq p f =
 filled-length : {before now : List ℕ} {end : ℕ} {text : List ℕ} → Fills before now 0 end text → length now ≡ length before
 filled-length {before} {text = text} f = ap length (f .bytes) ∙ length-sets before 0 text
 
-pub fitted : {before now : List ℕ} {end : ℕ} (text : List ℕ) → Fills before now 0 end text → end ≤ length now → Written end ≡ playedInto (length before) text
-fitted {before} {now} {end} text f h =
-    let room : end ≤ length before = omega (arith, filled-length f) in
-    let e : end ≡ length text = omega (arith, f .place room) in
-    rw (← e, le-leb end (length before) room)
+pub answered : {before now : List ℕ} {end : ℕ} (text : List ℕ) → Fills before now 0 end text → playedTo end (length now) ≡ playedInto (length before) text
+answered {before} {now} {end} text f = ap (playedTo end) (filled-length f) ∙ cases (leb end (length before)) fits short
+  where
+    fits : leb end (length before) ≡ true → playedTo end (length before) ≡ playedInto (length before) text
+    fits h = ap (λ (n : ℕ). playedTo n (length before)) (omega (arith, f .place (leb-true end (length before) h)))
 
-pub too-short : {before now : List ℕ} {end : ℕ} (text : List ℕ) → Fills before now 0 end text → length now < end → TooShort ≡ playedInto (length before) text
-too-short {before} {now} {end} text f h =
-    let room : length before < end = omega (arith, filled-length f) in
-    rw (lt-leb (length text) (length before) (omega (arith, f .short room)))
+    short : leb end (length before) ≡ false → playedTo end (length before) ≡ playedInto (length before) text
+    short h = rw (h, lt-leb (length text) (length before) (omega (arith, f .short (leb-false end (length before) h))))

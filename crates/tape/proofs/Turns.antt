@@ -1,6 +1,6 @@
 -- A turn that was taken, from what its line and the rest are, and into other bytes.
 -- Assumes nothing.
-use mathlib.Core.Path.{_≡_, subst, ap, _∙_}
+use mathlib.Core.Path.{_≡_, refl, subst, ap, _∙_}
 use mathlib.Core.List.{List}
 use mathlib.Core.Bool.{Bool, true}
 use Prim.Native.Nat.{ℕ, _+_, _≤_}
@@ -9,14 +9,21 @@ use lib.ListN.{length, take}
 use Rattle.types.specs.declared.FileKind.the-variants.{Conventional, Sequential}
 use Rattle.types.specs.declared.Mount.{Mount}
 use Rattle.types.specs.declared.Outcome.{Outcome}
-use Rattle.completion.specs.declared.Digest.{Digest}
-use Rattle.completion.specs.Completions.{stored}
-use Rattle.lines.specs.Lines.{completionLine}
+use Rattle.completion.specs.declared.Effect.{Effect}
+use Rattle.completion.specs.Completions.{completionBy, stored, effectOf}
+use Rattle.tape_records.specs.declared.Mark.{Mark}
+use Rattle.tape_records.specs.Records.{endMark, endBytes, endRecord}
+use Rattle.tape_lines.specs.Lines.{completionLine}
 use Rattle.tape.specs.declared.Turned.{Turned}
-use Rattle.text.specs.Put.{Put}
-use Rattle.tape.specs.Tape.{State, Turn, turn, completionTurn}
-use Rattle.tape.specs.Told.{Takes, lineRoom, stateOf}
+use Rattle.text.specs.Facts.{Put}
+use Rattle.tape.specs.Tape.{State, Turn, turn, endTurn}
+use Rattle.tape_lines.specs.Facts.{lineRoom}
+use Rattle.tape.specs.Facts.{Takes, Copies, stateOf}
 use Rattle.tape.proofs.Stores.{first-part}
+
+-- what a completion leaves of a state: its outcome, and both tables
+abbrev Effects : Effect → State → Outcome → List ℕ → List ℕ → Type 0
+Effects d s o cnv seq = (o ≡ d .outcome) × ((cnv ≡ stored Conventional (d .store) (s .cnv)) × (seq ≡ stored Sequential (d .store) (s .seq)))
 
 pub takes : {before after cnv seq cnv' seq' l l' : List ℕ} {to next : ℕ} {r : Turned} {more : Bool} {m : Mount}
     → Put before after to (r .to) l → l ≡ l'
@@ -29,24 +36,34 @@ takes {before} {after} {to = to} {r = r} p e more next mount cnvs seqs room = re
   room = room;
 }
 
--- of a completion: the line of its outcome was put, and both tables are as it left them
-pub digested : {before after cnv seq : List ℕ} {to next : ℕ} {r : Turned} {o : Outcome} (mark : List ℕ) (s : State) (d : Digest)
-    → Put before after to (r .to) (completionLine mark (o .answer))
-    → (r .more ≡ true) × (r .next ≡ next) × (r .mount ≡ o .mount) × (r .to ≤ to + lineRoom)
-    → (o ≡ d .outcome) × ((cnv ≡ stored Conventional (d .store) (s .cnv)) × (seq ≡ stored Sequential (d .store) (s .seq)))
-    → Takes (completionTurn mark next s d) before after to r cnv seq
-digested mark s d p t l =
-    takes p (ap (λ (x : Outcome). completionLine mark (x .answer)) (l .0)) (t .0) (t .1) (t .2 ∙ ap (λ (x : Outcome). x .mount) (l .0)) (l .1 .0) (l .1 .1) (t .3)
+-- ---- of the end of a command
+
+-- the line of its outcome was put, and both tables are as it left them
+pub ended : {before after cnv seq : List ℕ} {to end : ℕ} {o : Outcome} {mark : Mark} (b : List ℕ) (at n : ℕ) (bytes : List ℕ) (s : State) (done : Bool)
+    → n ≡ endBytes done → bytes ≡ endRecord done b at → mark ≡ endMark done
+    → Put before after to end (completionLine mark (o .answer)) × (end ≤ to + lineRoom)
+    → Effects (effectOf (s .mount) (s .cnv) (s .seq) (completionBy done true bytes)) s o cnv seq
+    → Takes (endTurn b at s done) before after to (record { to = end; more = true; next = at + n; mount = o .mount }) cnv seq
+ended {cnv = cnv} {seq} {o = o} b at n bytes s done e h f p l =
+    let k = subst (λ (x : List ℕ). Effects (effectOf (s .mount) (s .cnv) (s .seq) (completionBy done true x)) s o cnv seq) h l in
+    takes (p .0) (ap (λ (x : Mark). completionLine x (o .answer)) f ∙ ap (λ (x : Outcome). completionLine (endMark done) (x .answer)) (k .0)) refl
+    (ap (λ (x : ℕ). at + x) e)
+    (ap (λ (x : Outcome). x .mount) (k .0))
+    (k .1 .0)
+    (k .1 .1)
+    (p .1)
+
+-- ---- into other bytes
 
 -- its line was put at the start of some bytes, and copied from there
-pub copied-turn : {t : Turn} {before after out out' cnv seq : List ℕ} {to end : ℕ} {r : Turned}
-    → Takes t before after 0 r cnv seq → lineRoom ≤ length before → Put out out' to end (take (r .to) after)
-    → Takes t out out' to (record { to = end; more = r .more; next = r .next; mount = r .mount }) cnv seq
-copied-turn {t} {before} {after} {out} {out'} {to = to} {end} {r} p room q =
+pub copied-turn : {t : Turn} {before after out out' cnv seq : List ℕ} {to : ℕ} {r end : Turned}
+    → Takes t before after 0 r cnv seq → lineRoom ≤ length before → Copies r after out out' to end
+    → Takes t out out' to end cnv seq
+copied-turn {t} {before} {after} {out} {out'} {to = to} {r} {end} p room q =
     let n : r .to ≡ length (t .line) = omega (arith, p .line .place) in
     let e : take (r .to) after ≡ t .line = rw (n, p .line .bytes) (first-part before (t .line) (omega (arith, p .room))) in
     record {
-      line = subst (λ (l : List ℕ). Put out out' to end l) e q;
-      rest = p .rest;
-      room = omega (arith, q .place, p .room, ap length e);
+      line = subst (λ (l : List ℕ). Put out out' to (end .to) l) e (q .copy);
+      rest = cc (p .rest);
+      room = omega (arith, q .copy .place, p .room, ap length e);
     }

@@ -2,7 +2,7 @@
 use Prim.Native.Nat.{ℕ, zero, suc, _+_, _*_}
 use mathlib.Core.List.{List, [], _++_}
 use mathlib.Core.Bool.{Bool, true, false, cond, _&&_}
-use lib.ListN.{length, take, drop, replicate}
+use lib.ListN.{length, replicate}
 use lib.Dec.{leb, ltb}
 use Rattle.types.specs.declared.Mount.{Mount}
 use Rattle.types.specs.declared.FileKind.the-variants.{Conventional, Sequential}
@@ -10,19 +10,18 @@ use Rattle.types.specs.declared.Call.{Call}
 use Rattle.types.specs.declared.MountAnswer.{MountAnswer}
 use Rattle.types.specs.declared.MountAnswer.the-variants.{Refused, Mounted}
 use Rattle.types.specs.declared.Outcome.{Outcome}
-use Rattle.types.specs.Blocks.{mostFiles}
 use Rattle.types.specs.Mounts.{emptyMount}
 use Rattle.table.specs.Rows.{rowWidth}
 use Rattle.mount.specs.Mount.{Mounting, mountOutcome}
 use Rattle.calls.specs.Calls.{outcomeBy}
-use Rattle.completion.specs.declared.Digest.{Digest}
-use Rattle.completion.specs.Completions.{Completion, good, completionOf, stored, digestOf}
-use Rattle.records.specs.declared.Record.{Record}
-use Rattle.records.specs.declared.Record.the-variants.{OnFile, Good, Failed, Broken}
+use Rattle.completion.specs.declared.Effect.{Effect}
+use Rattle.completion.specs.Completions.{Completion, completionBy, stored, effectOf}
+use Rattle.tape_records.specs.declared.Record.{Record}
+use Rattle.tape_records.specs.declared.Record.the-variants.{OnFile, End, Broken}
 use Rattle.tape.specs.declared.Played.{Played}
-use Rattle.tape.specs.declared.Played.the-variants.{Written, TooShort}
-use Rattle.records.specs.Records.{recordAt, callBytes, goodBytes, failedBytes, opens, blockOf, superOf, reportOf, optionsOf, runPlace}
-use Rattle.lines.specs.Lines.{goodMark, failedMark, callLine, completionLine, mountLine, brokenLine}
+use Rattle.tape_records.specs.declared.Mark.{Mark}
+use Rattle.tape_records.specs.Records.{callBytes, endMark, endBytes, endRecord, recordAt, tapeFiles, opens, blockOf, superBytes, reportBytes, optionBytes, runPlace}
+use Rattle.tape_lines.specs.Lines.{callLine, completionLine, mountLine, brokenLine}
 
 -- what each record finds: the mount value, and the words of both tables
 pub record State : Type 0 where
@@ -53,26 +52,26 @@ brokenTurn at s = turn brokenLine false at s
 abbrev pub callTurn : ℕ → State → Call → Outcome → Turn
 callTurn next s x o = turn (callLine x (o .answer)) true next (record { mount = o .mount; cnv = s .cnv; seq = s .seq })
 
-abbrev pub completionTurn : List ℕ → ℕ → State → Digest → Turn
-completionTurn mark next s d =
-    turn (completionLine mark (d .outcome .answer)) true next
+abbrev pub completionTurn : Mark → ℕ → State → Effect → Turn
+completionTurn m next s e =
+    turn (completionLine m (e .outcome .answer)) true next
     (record {
-      mount = d .outcome .mount;
-      cnv = stored Conventional (d .store) (s .cnv);
-      seq = stored Sequential (d .store) (s .seq);
+      mount = e .outcome .mount;
+      cnv = stored Conventional (e .store) (s .cnv);
+      seq = stored Sequential (e .store) (s .seq);
     })
 
-abbrev pub digest : State → Completion → Digest
-digest s x = digestOf (s .mount) (s .cnv) (s .seq) x
+-- that the command was done, or "`NO` with 64 bytes (capacity always given)"
+abbrev pub completionAt : List ℕ → ℕ → Bool → Completion
+completionAt b at done = completionBy done true (endRecord done b at)
 
--- "`NO` with 64 bytes (capacity always given)"
-abbrev pub failureAt : List ℕ → ℕ → Completion
-failureAt b at = completionOf true (take 64 (drop (at + 2) b))
+abbrev pub endTurn : List ℕ → ℕ → State → Bool → Turn
+endTurn b at s done =
+    completionTurn (endMark done) (at + endBytes done) s (effectOf (s .mount) (s .cnv) (s .seq) (completionAt b at done))
 
 abbrev pub turnOf : List ℕ → ℕ → State → Record → Turn
 turnOf b at s (OnFile kind number x) = callTurn (at + callBytes) s x (outcomeBy (s .mount) (s .cnv) (s .seq) kind number x)
-turnOf b at s Good = completionTurn goodMark (at + goodBytes) s (digest s good)
-turnOf b at s Failed = completionTurn failedMark (at + failedBytes) s (digest s (failureAt b at))
+turnOf b at s (End done) = endTurn b at s done
 turnOf b at s Broken = brokenTurn at s
 
 unfoldable pub turnAt : List ℕ → ℕ → State → Turn
@@ -89,7 +88,7 @@ abbrev pub mountTurn : ℕ → Mounting → Turn
 mountTurn next o = turn (mountLine (o .answer)) (goesOn (o .answer)) next (record { mount = o .mount; cnv = o .cnv; seq = o .seq })
 
 abbrev pub mounting : List ℕ → List ℕ → List ℕ → Mounting
-mounting b cnv seq = mountOutcome (blockOf b) (superOf b) (optionsOf b) (reportOf b) cnv seq
+mounting b cnv seq = mountOutcome (blockOf b) (superBytes b) (optionBytes b) (reportBytes b) cnv seq
 
 unfoldable pub openTurn : List ℕ → List ℕ → List ℕ → Turn
 openTurn b cnv seq =
@@ -111,9 +110,9 @@ textFrom (suc n) b r =
 unfoldable pub textWith : List ℕ → List ℕ → List ℕ → List ℕ
 textWith b cnv seq = openTurn b cnv seq .line ++ textFrom (length b) b (openTurn b cnv seq .rest)
 
--- a table with room for as many files as a kind can have
+-- a table with room for as many files of a kind as a tape's report gives
 abbrev pub noRows : List ℕ
-noRows = replicate (rowWidth * mostFiles) 0
+noRows = replicate (rowWidth * tapeFiles) 0
 
 -- THE TAPE: what playing it prints
 unfoldable pub tapeText : List ℕ → List ℕ
@@ -121,6 +120,9 @@ tapeText b = textWith b noRows noRows
 
 -- ---- a tape in memory, and its text in lent bytes
 
--- the text's length, or that it is longer than the bytes
+-- of a text of n bytes: whether it fits, and how many of the lent bytes are its bytes, the smaller of both lengths
+abbrev pub playedTo : ℕ → ℕ → Played
+playedTo n room = record { whole = leb n room; length = cond (leb n room) n room }
+
 abbrev pub playedInto : ℕ → List ℕ → Played
-playedInto room text = cond (leb (length text) room) (Written (length text)) TooShort
+playedInto room text = playedTo (length text) room

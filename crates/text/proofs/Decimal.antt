@@ -47,7 +47,7 @@ decimal-more n d p h =
     ∙ rw (q, r) (ap (λ (l : List ℕ). l ++ digitByte d ∷ []) (digits-enough (n * 10 + d) (suc n) n (omega arith) (omega arith)))
 
 -- a number of more digits than one: its last stands after the others
-pub last-digit : (n : ℕ) → 10 ≤ n → decimal n ≡ decimal (n / 10) ++ ((48 + n % 10) ∷ [])
+pub last-digit : (n : ℕ) → 10 ≤ n → decimal n ≡ decimal (n / 10) ++ digitByte (n % 10) ∷ []
 last-digit n h =
     let e : n / 10 * 10 + n % 10 ≡ n = omega arith in
     ap decimal (sym e) ∙ decimal-more (n / 10) (n % 10) (omega arith) (omega arith)

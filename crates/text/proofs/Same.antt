@@ -5,7 +5,7 @@ use native.Mathlib.Decide.{ℕ-discrete}
 use native.Mathlib.Numerals.{add-one}
 use mathlib.Core.Path.{_≡_, refl, ap}
 use mathlib.Core.Logic.{_≢_}
-use mathlib.Core.Bool.{true, false, false≢true}
+use mathlib.Core.Bool.{true, false}
 use mathlib.Core.List.{List, [], _∷_}
 use lib.ListN.{length, drop, getD, drop-of-length-le}
 use lib.Seq.{drop-cons}
@@ -18,16 +18,6 @@ pub same-refl : (b : List ℕ) → same b b ≡ true
 unfolding same
 same-refl [] = refl
 same-refl (x ∷ xs) = rw (eq-eqb x x refl) (same-refl xs)
-
-pub same-eq : (b c : List ℕ) → same b c ≡ true → b ≡ c
-unfolding same
-same-eq [] [] h = refl
-same-eq [] (y ∷ ys) h = absurd (false≢true h)
-same-eq (x ∷ xs) [] h = absurd (false≢true h)
-same-eq (x ∷ xs) (y ∷ ys) h = elim (ℕ-discrete x y) [
-  | yes e ↦ let f : xs ≡ ys = same-eq xs ys (rw (eq-eqb x y e) at h) in cc
-  | no d ↦ absurd (false≢true (rw (ne-eqb x y d) at h))
-]
 
 pub not-same : (b c : List ℕ) → b ≢ c → same b c ≡ false
 unfolding same

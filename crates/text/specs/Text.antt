@@ -20,9 +20,9 @@ same (x ∷ xs) (y ∷ ys) = eqb x y && same xs ys
 
 -- ---- numbers
 
--- the byte of a digit: `0` is 48
+-- the byte of a digit
 abbrev pub digitByte : ℕ → ℕ
-digitByte d = 48 + d
+digitByte d = code "0" + d
 
 -- a number's digits, at most so many, the highest first: those of a tenth of it, and the last
 unfoldable pub digitsOf : ℕ → ℕ → List ℕ
@@ -35,7 +35,7 @@ decimal n = digitsOf (suc n) n
 
 -- a space and a number
 abbrev pub field : ℕ → List ℕ
-field n = 32 ∷ decimal n
+field n = code " " ∷ decimal n
 
 abbrev pub fields : List ℕ → List ℕ
 fields [] = []

@@ -5,7 +5,10 @@ ghost use mathlib.Core.List.{[], _∷_};
 ghost use Prim.Native.Nat.{_+_, _≤_, _<_, _^_};
 ghost use lib.ListN.{length};
 ghost use Rattle.text.specs.Text.{same, decimal, field};
-ghost use Rattle.text.specs.Put.{Put};
+ghost use Rattle.text.specs.Facts.{fieldBytes, Put};
+
+// The digits that a number has at most.
+const MOST_DIGITS: usize = 20;
 
 pub fn same_text(a: &[u8], b: &[u8]) -> bool
     ensures { λ r. ⌜ r ≡ same (now (a .entry)) (now (b .entry)) ⌝ }
@@ -39,28 +42,19 @@ fn put_digits(out: &mut [u8], at: usize, n: u64, places: usize) -> usize
     ensures { λ r. ⌜ r ≤ at + places ⌝ }
 {
     if n < 10 {
-        put_byte(out, at, 48 + n as u8)
+        put_byte(out, at, b'0' + n as u8)
     } else {
         let next = put_digits(out, at, n / 10, places - 1);
-        put_byte(out, next, 48 + (n % 10) as u8)
+        put_byte(out, next, b'0' + (n % 10) as u8)
     }
-}
-
-// The decimal digits of a number.
-pub fn put_decimal(out: &mut [u8], at: usize, n: u64) -> usize
-    requires { ⌜ at + 20 ≤ length (now out) ⌝ }
-    ensures { λ r. ⌜ Put (now (out .entry)) (now (out .exit)) at r (decimal n) ⌝ }
-    ensures { λ r. ⌜ r ≤ at + 20 ⌝ }
-{
-    put_digits(out, at, n, 20)
 }
 
 // A space and a number.
 pub fn put_field(out: &mut [u8], at: usize, n: u64) -> usize
-    requires { ⌜ at + 21 ≤ length (now out) ⌝ }
+    requires { ⌜ at + fieldBytes ≤ length (now out) ⌝ }
     ensures { λ r. ⌜ Put (now (out .entry)) (now (out .exit)) at r (field n) ⌝ }
-    ensures { λ r. ⌜ r ≤ at + 21 ⌝ }
+    ensures { λ r. ⌜ r ≤ at + fieldBytes ⌝ }
 {
-    let next = put_byte(out, at, 32);
-    put_decimal(out, next, n)
+    let next = put_byte(out, at, b' ');
+    put_digits(out, next, n, MOST_DIGITS)
 }

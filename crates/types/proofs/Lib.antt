@@ -1,5 +1,6 @@
 pub mod Blocks
 pub mod CodeLaws
+pub mod NumberLaws
 pub mod PredicateLaws
 pub mod Tests
 pub mod VerdictLaws

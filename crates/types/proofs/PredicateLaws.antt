@@ -4,23 +4,11 @@ use mathlib.Core.Path.{_≡_, refl, sym}
 use mathlib.Core.Bool.{true, false, not, false≢true}
 use Rattle.types.specs.declared.FileKind.{FileKind}
 use Rattle.types.specs.declared.FileKind.the-variants.{Conventional, Sequential}
-use Rattle.types.specs.declared.Condition.{Condition}
-use Rattle.types.specs.declared.Condition.the-variants as condition
 use Rattle.types.specs.declared.Access.{Access}
 use Rattle.types.specs.declared.Access.the-variants as access
 use Rattle.types.specs.declared.Outstanding.{Outstanding}
 use Rattle.types.specs.declared.Outstanding.the-variants.{Idle, Busy}
-use Rattle.types.specs.Predicates.{isConventional, isReadOnly, isOffline, isNone, isWrite, isBusy}
-
-pub offline-is : (c : Condition) → isOffline c ≡ true → c ≡ condition.Offline
-offline-is condition.Healthy h = absurd (false≢true h)
-offline-is condition.ReadOnly h = absurd (false≢true h)
-offline-is condition.Offline h = refl
-
-pub readonly-is : (c : Condition) → isReadOnly c ≡ true → c ≡ condition.ReadOnly
-readonly-is condition.Healthy h = absurd (false≢true h)
-readonly-is condition.ReadOnly h = refl
-readonly-is condition.Offline h = absurd (false≢true h)
+use Rattle.types.specs.Predicates.{isConventional, isNone, isBusy}
 
 pub none-is : (a : Access) → isNone a ≡ true → a ≡ access.Nothing
 none-is access.Nothing h = refl
@@ -31,11 +19,6 @@ pub some-is : (a : Access) → (a ≡ access.Nothing → ⊥) → not (isNone a)
 some-is access.Nothing h = absurd (h refl)
 some-is access.Read h = refl
 some-is access.Write h = refl
-
-pub unwritten : (a : Access) → (a ≡ access.Write → ⊥) → not (isWrite a) ≡ true
-unwritten access.Nothing h = refl
-unwritten access.Read h = refl
-unwritten access.Write h = absurd (h refl)
 
 pub conventional-is : (k : FileKind) → isConventional k ≡ true → k ≡ Conventional
 conventional-is Conventional h = refl

@@ -8,7 +8,7 @@ use Rattle.types.specs.declared.Verdict.the-variants.{Passed, Refused}
 use Rattle.types.specs.declared.Command.{Command}
 use Rattle.types.specs.declared.Answer.{Answer}
 use Rattle.types.specs.declared.Answer.the-variants.{Issue}
-use Rattle.types.specs.Verdicts.{refuse, answerAfter}
+use Rattle.types.specs.Verdicts.{refuse, andThen, answerAfter}
 
 -- one check
 pub check-passed : {t : Bool} (x : Refusal) {rest : Verdict} → refuse t x rest ≡ Passed → (t ≡ false) × (rest ≡ Passed)
@@ -22,6 +22,16 @@ check-passed {t} x {rest} e = by t e
 pub check-passes : {t : Bool} (x : Refusal) {rest v : Verdict} → t ≡ false → rest ≡ v → refuse t x rest ≡ v
 unfolding refuse
 check-passes x e g = rw e g
+
+-- checks whose finding is a verdict already
+pub then-passed : (v : Verdict) {rest : Verdict} → andThen v rest ≡ Passed → (v ≡ Passed) × (rest ≡ Passed)
+unfolding andThen
+then-passed Passed e = (refl, e)
+then-passed (Refused x) e = (cc, cc)
+
+pub then-passes : {v rest w : Verdict} → v ≡ Passed → rest ≡ w → andThen v rest ≡ w
+unfolding andThen
+then-passes e g = rw e g
 
 -- the answer after them: a command is issued only where they are passed
 pub after-passed : (v : Verdict) {rest : Answer} {c : Command} → answerAfter v rest ≡ Issue c → (v ≡ Passed) × (rest ≡ Issue c)

@@ -8,7 +8,6 @@ use Rattle.types.specs.declared.Values.{Values}
 use Rattle.types.specs.declared.Values.the-variants.{Nothing, One, Two}
 use Rattle.types.specs.declared.Verdict.{Verdict}
 use Rattle.types.specs.declared.Verdict.the-variants as verdict
-use Rattle.types.specs.declared.Row.{Row}
 use Rattle.types.specs.declared.Answer.{Answer}
 use Rattle.types.specs.declared.Answer.the-variants as answer
 use Rattle.types.specs.declared.MountAnswer.{MountAnswer}

@@ -11,6 +11,11 @@ unfoldable pub refuse : Bool → Refusal → Verdict → Verdict
 refuse true x rest = Refused x
 refuse false x rest = rest
 
+-- checks whose finding is a verdict already: what they refuse, else what the rest finds
+unfoldable pub andThen : Verdict → Verdict → Verdict
+andThen Passed rest = rest
+andThen (Refused x) rest = Refused x
+
 -- the answer of a call: the refusal that its checks find, else the rest
 unfoldable pub answerAfter : Verdict → Answer → Answer
 answerAfter Passed rest = rest

@@ -1,7 +1,7 @@
 // What each answer is in numbers; and a chain of checks, of which the first that fails decides.
 ghost use mathlib.Core.Path.{_≡_};
 ghost use Rattle.types.specs.Numbers.{plain, withValue, refusalCode, refusalNumber, answerNumber, mountNumber, findNumber, showNumber};
-ghost use Rattle.types.specs.Verdicts.{refuse};
+ghost use Rattle.types.specs.Verdicts.{refuse, andThen};
 use crate::Answer;
 use crate::FindAnswer;
 use crate::MountAnswer;
@@ -16,6 +16,16 @@ pub fn refuse(fails: bool, x: Refusal, rest: Verdict) -> Verdict
     ensures { λ r. ⌜ r ≡ refuse fails x rest ⌝ }
 {
     if fails { Verdict::Refused(x) } else { rest }
+}
+
+// Checks that have been made: what they refuse, else what the rest finds.
+pub fn and_then(found: Verdict, rest: Verdict) -> Verdict
+    ensures { λ r. ⌜ r ≡ andThen found rest ⌝ }
+{
+    match found {
+        Verdict::Passed => rest,
+        Verdict::Refused(x) => Verdict::Refused(x),
+    }
 }
 
 fn plain(number: u64) -> RefusalCode

@@ -1,4 +1,5 @@
--- The laws of little-endian numbers, which every width cites.
+-- The laws of little-endian numbers, which every width cites, and of bytes laid out one part after the other.
+-- Assumes nothing.
 use mathlib.Core.Path.{_≡_, refl, _∙_, ap, sym}
 use mathlib.Core.List.{List, _∷_, _++_}
 use Prim.Native.Nat.{ℕ, zero, suc, _+_, _*_, _/_, _%_, _^_, _≤_, _<_}
@@ -6,7 +7,7 @@ use native.Mathlib.Numerals.{add-one}
 use native.Mathlib.Nat.{zero-add, suc-add, add-zero, mul-comm, mul-assoc, pow-suc}
 use native.Mathlib.Omega.{arith}
 use lib.ListN.{length, getD, take, drop}
-use lib.Seq.{drop-cons}
+use lib.Seq.{drop-cons, drop-drop, drop-at, getD-drop}
 use Rattle.wire.specs.Le.{le, little}
 
 -- a number of one byte is that byte
@@ -43,6 +44,11 @@ le-little (suc n) v l h =
     let rest : le n (v % 256 ∷ little n (v / 256) ++ l) 1 ≡ v / 256 = le-cons n (v % 256) (little n (v / 256) ++ l) 0 ∙ le-little n (v / 256) l low in
     ap (λ k. v % 256 + 256 * k) rest ∙ omega arith
 
+pub length-little : (n v : ℕ) → length (little n v) ≡ n
+unfolding little
+length-little zero v = refl
+length-little (suc n) v = ap suc (length-little n (v / 256))
+
 -- n bytes from `at` on, back from their number
 pub little-le : (n : ℕ) (b : List ℕ) (at : ℕ) → ((k : ℕ) → getD b k 0 < 256) → at + n ≤ length b → little n (le n b at) ≡ take n (drop at b)
 unfolding little le
@@ -58,3 +64,23 @@ little-le (suc n) b at small h =
     ∙ ap (λ (l : List ℕ). x ∷ l) (little-le n b (at + 1) small (omega arith))
     ∙ ap (λ (k : ℕ). x ∷ take n (drop k b)) (add-one at)
     ∙ sym (ap (take (suc n)) (drop-cons b at 0 inside))
+
+-- PARTS, one after the other: what stands from a place on
+
+pub le-drop : (n at : ℕ) (b : List ℕ) (k : ℕ) → le n (drop at b) k ≡ le n b (at + k)
+unfolding le
+le-drop zero at b k = refl
+le-drop (suc n) at b k =
+    let e : at + (k + 1) ≡ at + k + 1 = omega arith in
+    let here = getD-drop at b k 0 in
+    let there : le n (drop at b) (k + 1) ≡ le n b (at + k + 1) = le-drop n at b (k + 1) ∙ ap (le n b) e in
+    cc
+
+-- behind a part of n bytes, the rest
+pub next-part : (b part rest : List ℕ) (at n : ℕ) → length part ≡ n → drop at b ≡ part ++ rest → drop (at + n) b ≡ rest
+next-part b part rest at n l e = sym (drop-drop n at b) ∙ ap (drop n) e ∙ drop-at part rest n l
+
+-- a number of n bytes there: the number
+pub number-at : (b rest : List ℕ) (at n v : ℕ) → v < 256 ^ n → drop at b ≡ little n v ++ rest → le n b at ≡ v
+number-at b rest at n v h e =
+    sym (le-drop n at b 0 ∙ ap (le n b) (add-zero at)) ∙ ap (λ (l : List ℕ). le n l 0) e ∙ le-little n v rest h

@@ -4,6 +4,13 @@ ghost use Prim.Native.Nat.{_+_, _≤_, _<_};
 ghost use lib.ListN.{length, getD};
 ghost use Rattle.wire.specs.Le.{le};
 
+// What a high half weighs: the values of one byte, of two and of four.
+const ONE_BYTE: u16 = 256;
+
+const TWO_BYTES: u32 = 65536;
+
+const FOUR_BYTES: u64 = 4294967296;
+
 // The byte at `at`.
 pub fn u8_at(b: &[u8], at: usize) -> u8
     requires { ⌜ at < length (now b) ⌝ }
@@ -19,7 +26,7 @@ pub fn u16_at(b: &[u8], at: usize) -> u16
 {
     let low = u8_at(b, at);
     let high = u8_at(b, at + 1);
-    low as u16 + 256 * (high as u16)
+    low as u16 + ONE_BYTE * (high as u16)
 }
 
 // The number of the four bytes at `at`.
@@ -29,7 +36,7 @@ pub fn u32_at(b: &[u8], at: usize) -> u32
 {
     let low = u16_at(b, at);
     let high = u16_at(b, at + 2);
-    low as u32 + 65536 * (high as u32)
+    low as u32 + TWO_BYTES * (high as u32)
 }
 
 // The number of the eight bytes at `at`.
@@ -39,5 +46,5 @@ pub fn u64_at(b: &[u8], at: usize) -> u64
 {
     let low = u32_at(b, at);
     let high = u32_at(b, at + 4);
-    low as u64 + 4294967296 * (high as u64)
+    low as u64 + FOUR_BYTES * (high as u64)
 }

@@ -1,3 +1,3 @@
-pub mod Report
-pub mod Told
+pub mod Facts
+pub mod Faults
 pub mod Zone

@@ -1,15 +1,22 @@
 -- A zone record, when it is good input, and what it says of its zone. Numbers of a record are in sectors of 512 bytes.
 -- Everywhere `unit` is the block in sectors.
 use Prim.Native.Nat.{ℕ, _+_, _-_}
-use mathlib.Core.List.{List}
-use mathlib.Core.Bool.{Bool, true, false, cond, not, _&&_, _||_}
+use mathlib.Core.List.{List, _∷_, _++_}
+use mathlib.Core.Bool.{Bool, cond, not, _&&_, _||_}
 use lib.ListN.{getD}
 use lib.Dec.{leb, eqb}
 use Rattle.types.specs.declared.Condition.{Condition}
 use Rattle.types.specs.declared.Condition.the-variants.{Healthy, ReadOnly, Offline}
 use Rattle.types.specs.Blocks.{bytesOf, onBlock, wholeBlocks, endsInReach}
-use Rattle.wire.specs.Le.{le}
+use Rattle.types.specs.Predicates.{isHealthy}
+use Rattle.wire.specs.Le.{le, little}
 use Rattle.zones.specs.declared.Zone.{Zone}
+
+-- ---- its bytes
+
+-- "Zone of 64 bytes"
+abbrev pub zoneBytes : ℕ
+zoneBytes = 64
 
 -- "start u64 at 0, length at 8, write pointer at 16, type byte at 24, condition byte at 25, capacity u64 at 32; other bytes ignored.
 -- Flag clear: capacity is length."
@@ -24,6 +31,12 @@ zoneAt given b at =
       capacity = cond given (le 8 b (at + 32)) (le 8 b (at + 8));
     }
 
+-- the other way round: the record of a zone whose capacity is given, with its other bytes zero
+unfoldable pub encodeZone : Zone → List ℕ
+encodeZone z =
+    little 8 (z .start) ++ (little 8 (z .length) ++ (little 8 (z .pointer) ++ (z .kind ∷ z .condition ∷ (little 6 0 ++
+    (little 8 (z .capacity) ++ little 24 0)))))
+
 -- ---- what a record says
 
 -- "Type 1 (conventional)"
@@ -37,11 +50,6 @@ sequential z = eqb (z .kind) 2 || eqb (z .kind) 3
 -- "Condition 13 is read-only, 15 offline, others healthy."
 abbrev pub conditionOf : Zone → Condition
 conditionOf z = cond (eqb (z .condition) 13) ReadOnly (cond (eqb (z .condition) 15) Offline Healthy)
-
-abbrev pub isHealthy : Condition → Bool
-isHealthy Healthy = true
-isHealthy ReadOnly = false
-isHealthy Offline = false
 
 abbrev pub healthy : Zone → Bool
 healthy z = isHealthy (conditionOf z)

@@ -1,14 +1,15 @@
-// A zone report: its header and its zones, decoded by value, and when they are good input.
+// A zone record: decoded by value, what it says of its zone, and which test of good input it fails first.
 ghost use mathlib.Core.Path.{_≡_};
 ghost use mathlib.Core.Bool.{true, cond};
-ghost use Prim.Native.Nat.{_+_, _*_, _≤_, _<_, _^_};
+ghost use Prim.Native.Nat.{_+_, _≤_, _<_};
 ghost use lib.ListN.{length};
-ghost use Rattle.types.specs.Blocks.{blockSectors, bytesOf, wholeBlocks};
-ghost use Rattle.zones.specs.Zone.{zoneAt, conventional, sequential, conditionOf, isHealthy, healthy, writtenSize, goodLength, goodCapacity, goodEnd, goodType, conventionalCondition, sequentialCondition, goodCondition, pointed, pointsWell, goodPointer, goodRecord, goodZone};
-ghost use Rattle.zones.specs.Report.{headerBytes, zoneBytes, zoneCount, capacityGiven, goodHeader, zoneOf};
-ghost use Rattle.zones.specs.Told.{Framed, Sound};
+ghost use Rattle.types.specs.Blocks.{onBlock, wholeBlocks};
+ghost use Rattle.zones.specs.Zone.{zoneBytes, zoneAt, conventional, sequential, conditionOf, healthy, writtenSize, startsAt, goodLength, goodCapacity, goodEnd, goodType, conventionalCondition, sequentialCondition, goodCondition, pointed, pointsWell, goodPointer, goodRecord, goodZone};
+ghost use Rattle.zones.specs.Faults.{faultUnless, recordFault, zoneFault, faultCode, isFaultless};
+ghost use Rattle.zones.specs.Facts.{Bounded};
 use types::Condition;
-use types::Refusal;
+use types::units::LARGE_BLOCK;
+use types::units::SECTOR_BYTES;
 
 // A zone record. Start, length, write pointer and capacity in sectors of 512 bytes; type and condition are the record's bytes.
 pub struct Zone {
@@ -20,34 +21,53 @@ pub struct Zone {
     pub capacity: u64,
 }
 
-// What the checks of a report find: nothing, or what they refuse.
-pub enum ReportCheck {
-    Good,
-    Bad(Refusal),
+// Which test of good input a zone fails first, in the order of the tests.
+pub enum ZoneFault {
+    Nothing,
+    Start,
+    Length,
+    Capacity,
+    End,
+    Type,
+    Condition,
+    Pointer,
 }
 
-pub const SECTOR_BYTES: u64 = 512;
-
-pub const HEADER_BYTES: usize = 16;
-
+// A record's bytes, and where its fields stand.
 pub const ZONE_BYTES: usize = 64;
 
-pub const MOST_ZONES: usize = 1023;
+const LENGTH_AT: usize = 8;
 
-// The block in sectors.
-pub fn block_sectors(block: u64) -> u64
-    ensures { λ r. ⌜ r ≡ blockSectors block ⌝ }
-{
-    block / SECTOR_BYTES
-}
+const POINTER_AT: usize = 16;
 
-// The bytes of so many sectors.
-pub fn bytes_of(sectors: u64) -> u64
-    requires { ⌜ sectors ≤ 2 ^ 50 ⌝ }
-    ensures { λ r. ⌜ r ≡ bytesOf sectors ⌝ }
-{
-    sectors * SECTOR_BYTES
-}
+const TYPE_AT: usize = 24;
+
+const CONDITION_AT: usize = 25;
+
+const CAPACITY_AT: usize = 32;
+
+// The types of a zone: a sequential one may be required or preferred.
+const CONVENTIONAL: u8 = 1;
+
+const SEQUENTIAL_REQUIRED: u8 = 2;
+
+const SEQUENTIAL_PREFERRED: u8 = 3;
+
+// The conditions of a zone. A conventional one has no pointer; those from empty to closed tell how far a sequential one is written.
+const NO_POINTER: u8 = 0;
+
+const EMPTY: u8 = 1;
+
+const CLOSED: u8 = 4;
+
+const READ_ONLY: u8 = 13;
+
+const FULL: u8 = 14;
+
+const OFFLINE: u8 = 15;
+
+// The large block in sectors.
+const LARGE_UNIT: u64 = LARGE_BLOCK / SECTOR_BYTES;
 
 fn capacity_of(given: bool, stated: u64, length: u64) -> u64
     ensures { λ r. ⌜ r ≡ cond given stated length ⌝ }
@@ -61,11 +81,11 @@ pub fn zone_at(b: &[u8], at: usize, given: bool) -> Zone
     ensures { λ r. ⌜ r ≡ zoneAt given (now (b .entry)) at ⌝ }
 {
     let start = wire::u64_at(b, at);
-    let length = wire::u64_at(b, at + 8);
-    let pointer = wire::u64_at(b, at + 16);
-    let kind = wire::u8_at(b, at + 24);
-    let condition = wire::u8_at(b, at + 25);
-    let stated = wire::u64_at(b, at + 32);
+    let length = wire::u64_at(b, at + LENGTH_AT);
+    let pointer = wire::u64_at(b, at + POINTER_AT);
+    let kind = wire::u8_at(b, at + TYPE_AT);
+    let condition = wire::u8_at(b, at + CONDITION_AT);
+    let stated = wire::u64_at(b, at + CAPACITY_AT);
     let capacity = capacity_of(given, stated, length);
     Zone {
         start,
@@ -80,56 +100,65 @@ pub fn zone_at(b: &[u8], at: usize, given: bool) -> Zone
 pub fn is_conventional(z: Zone) -> bool
     ensures { λ r. ⌜ r ≡ conventional z ⌝ }
 {
-    z.kind == 1
+    z.kind == CONVENTIONAL
 }
 
 pub fn is_sequential(z: Zone) -> bool
     ensures { λ r. ⌜ r ≡ sequential z ⌝ }
 {
-    (z.kind == 2) | (z.kind == 3)
+    (z.kind == SEQUENTIAL_REQUIRED) | (z.kind == SEQUENTIAL_PREFERRED)
 }
 
 pub fn condition_of(z: Zone) -> Condition
     ensures { λ r. ⌜ r ≡ conditionOf z ⌝ }
 {
-    if z.condition == 13 {
+    if z.condition == READ_ONLY {
         return Condition::ReadOnly;
     }
-    if z.condition == 15 {
+    if z.condition == OFFLINE {
         return Condition::Offline;
     }
     Condition::Healthy
 }
 
-fn condition_is_healthy(c: Condition) -> bool
-    ensures { λ r. ⌜ r ≡ isHealthy c ⌝ }
-{
-    match c {
-        Condition::Healthy => true,
-        Condition::ReadOnly => false,
-        Condition::Offline => false,
-    }
-}
-
 pub fn is_healthy(z: Zone) -> bool
     ensures { λ r. ⌜ r ≡ healthy z ⌝ }
 {
-    condition_is_healthy(condition_of(z))
+    types::predicates::is_healthy(condition_of(z))
 }
 
 // How many bytes a sequential zone's pointer says are written.
 pub fn written_size(z: Zone) -> u64
-    requires { ⌜ Sound z × (pointed z ≡ true) ⌝ }
+    requires { ⌜ Bounded z × (pointed z ≡ true) ⌝ }
     ensures { λ r. ⌜ r ≡ writtenSize z ⌝ }
 {
-    bytes_of(z.pointer - z.start)
+    types::units::bytes_of(z.pointer - z.start)
+}
+
+// On a block of so many sectors. With the large block written out, its numbers aren't divided by one that only the run knows.
+fn on_unit(n: u64, unit: u64) -> bool
+    requires { ⌜ 0 < unit ⌝ }
+    ensures { λ r. ⌜ r ≡ onBlock unit n ⌝ }
+{
+    if unit == LARGE_UNIT {
+        n % LARGE_UNIT == 0
+    } else {
+        n % unit == 0
+    }
 }
 
 fn whole_blocks(n: u64, unit: u64) -> bool
     requires { ⌜ 0 < unit ⌝ }
     ensures { λ r. ⌜ r ≡ wholeBlocks unit n ⌝ }
 {
-    (0 < n) & (n % unit == 0)
+    let whole = on_unit(n, unit);
+    (0 < n) & whole
+}
+
+fn starts_at(z: Zone, expected: u64) -> bool
+    ensures { λ r. ⌜ r ≡ startsAt expected z ⌝ }
+{
+    z.start == expected
 }
 
 fn good_length(z: Zone, unit: u64) -> bool
@@ -157,19 +186,19 @@ fn good_end(z: Zone) -> bool
 fn good_type(z: Zone) -> bool
     ensures { λ r. ⌜ r ≡ goodType z ⌝ }
 {
-    (z.kind == 1) | ((z.kind == 2) | (z.kind == 3))
+    is_conventional(z) | is_sequential(z)
 }
 
 fn conventional_condition(c: u8) -> bool
     ensures { λ r. ⌜ r ≡ conventionalCondition c ⌝ }
 {
-    (c == 0) | (c == 13) | (c == 15)
+    (c == NO_POINTER) | (c == READ_ONLY) | (c == OFFLINE)
 }
 
 fn sequential_condition(c: u8) -> bool
     ensures { λ r. ⌜ r ≡ sequentialCondition c ⌝ }
 {
-    ((1 <= c) & (c <= 4)) | (c == 13) | (c == 14) | (c == 15)
+    ((EMPTY <= c) & (c <= CLOSED)) | (c == READ_ONLY) | (c == FULL) | (c == OFFLINE)
 }
 
 fn good_condition(z: Zone) -> bool
@@ -183,7 +212,7 @@ fn good_condition(z: Zone) -> bool
 }
 
 // The pointer of a healthy sequential zone is looked at, and no other.
-pub fn is_pointed(z: Zone) -> bool
+fn is_pointed(z: Zone) -> bool
     ensures { λ r. ⌜ r ≡ pointed z ⌝ }
 {
     let sequential = is_sequential(z);
@@ -197,9 +226,8 @@ fn points_well(z: Zone, unit: u64) -> bool
 {
     if z.start <= z.pointer {
         let written = z.pointer - z.start;
-        (written <= z.capacity)
-            & (z.pointer % unit == 0)
-            & (!(z.condition == 14) | (written == z.capacity))
+        let whole = on_unit(z.pointer, unit);
+        (written <= z.capacity) & whole & (!(z.condition == FULL) | (written == z.capacity))
     } else {
         false
     }
@@ -214,18 +242,67 @@ fn good_pointer(z: Zone, unit: u64) -> bool
     !looked | well
 }
 
-// A record that is good input wherever its zone starts. `unit` is the block in sectors.
+// One test: what the rest finds where it is passed, else its fault.
+fn fault_unless(passed: bool, fault: ZoneFault, rest: ZoneFault) -> ZoneFault
+    ensures { λ r. ⌜ r ≡ faultUnless passed fault rest ⌝ }
+{
+    if passed { rest } else { fault }
+}
+
+// The first fault of a record, wherever its zone starts. `unit` is the block in sectors.
+pub fn record_fault(z: Zone, unit: u64) -> ZoneFault
+    requires { ⌜ 0 < unit ⌝ }
+    ensures { λ r. ⌜ r ≡ recordFault unit z ⌝ }
+{
+    let pointer = fault_unless(
+        good_pointer(z, unit),
+        ZoneFault::Pointer,
+        ZoneFault::Nothing,
+    );
+    let condition = fault_unless(good_condition(z), ZoneFault::Condition, pointer);
+    let kind = fault_unless(good_type(z), ZoneFault::Type, condition);
+    let end = fault_unless(good_end(z), ZoneFault::End, kind);
+    let capacity = fault_unless(good_capacity(z, unit), ZoneFault::Capacity, end);
+    fault_unless(good_length(z, unit), ZoneFault::Length, capacity)
+}
+
+// The first fault of a zone of a report, where the one before it ended at `expected`.
+pub fn zone_fault(z: Zone, expected: u64, unit: u64) -> ZoneFault
+    requires { ⌜ 0 < unit ⌝ }
+    ensures { λ r. ⌜ r ≡ zoneFault unit expected z ⌝ }
+{
+    let fault = record_fault(z, unit);
+    fault_unless(starts_at(z, expected), ZoneFault::Start, fault)
+}
+
+// The number of a fault: 0 for none, else its place in the order of the tests.
+pub fn fault_code(fault: ZoneFault) -> u64
+    ensures { λ r. ⌜ r ≡ faultCode fault ⌝ }
+{
+    match fault {
+        ZoneFault::Nothing => 0,
+        ZoneFault::Start => 1,
+        ZoneFault::Length => 2,
+        ZoneFault::Capacity => 3,
+        ZoneFault::End => 4,
+        ZoneFault::Type => 5,
+        ZoneFault::Condition => 6,
+        ZoneFault::Pointer => 7,
+    }
+}
+
+fn is_faultless(fault: ZoneFault) -> bool
+    ensures { λ r. ⌜ r ≡ isFaultless fault ⌝ }
+{
+    fault_code(fault) == 0
+}
+
+// A record that is good input wherever its zone starts.
 pub fn good_record(z: Zone, unit: u64) -> bool
     requires { ⌜ 0 < unit ⌝ }
     ensures { λ r. ⌜ r ≡ goodRecord unit z ⌝ }
 {
-    let length = good_length(z, unit);
-    let capacity = good_capacity(z, unit);
-    let end = good_end(z);
-    let kind = good_type(z);
-    let condition = good_condition(z);
-    let pointer = good_pointer(z, unit);
-    length & capacity & end & kind & condition & pointer
+    is_faultless(record_fault(z, unit))
 }
 
 // A zone of a report that is good input where the one before it ended at `expected`.
@@ -233,49 +310,5 @@ pub fn good_zone(z: Zone, expected: u64, unit: u64) -> bool
     requires { ⌜ 0 < unit ⌝ }
     ensures { λ r. ⌜ r ≡ goodZone unit expected z ⌝ }
 {
-    let good = good_record(z, unit);
-    (z.start == expected) & good
-}
-
-// The number of zones that the header states.
-pub fn zone_count(b: &[u8]) -> usize
-    requires { ⌜ headerBytes ≤ length (now b) ⌝ }
-    ensures { λ r. ⌜ r ≡ zoneCount (now (b .entry)) ⌝ }
-{
-    wire::u32_at(b, 8) as usize
-}
-
-// The report states each zone's capacity.
-fn capacity_given(b: &[u8]) -> bool
-    requires { ⌜ headerBytes ≤ length (now b) ⌝ }
-    ensures { λ r. ⌜ r ≡ capacityGiven (now (b .entry)) ⌝ }
-{
-    wire::u32_at(b, 12) == 1
-}
-
-// The report's header and its length are right.
-pub fn good_header(b: &[u8]) -> bool
-    ensures { λ r. ⌜ r ≡ goodHeader (now (b .entry)) ⌝ }
-{
-    if HEADER_BYTES <= b.len() {
-        let sector = wire::u64_at(b, 0);
-        let count = wire::u32_at(b, 8) as usize;
-        let flags = wire::u32_at(b, 12);
-        (sector == 0)
-            & (1 <= count)
-            & (count <= MOST_ZONES)
-            & (flags <= 1)
-            & (b.len() == HEADER_BYTES + ZONE_BYTES * count)
-    } else {
-        false
-    }
-}
-
-// The zone of number `i` of a report whose header is good.
-pub fn zone_of(b: &[u8], i: usize) -> Zone
-    requires { ⌜ Framed (now b) × (i < zoneCount (now b)) ⌝ }
-    ensures { λ r. ⌜ r ≡ zoneOf (now (b .entry)) i ⌝ }
-{
-    let given = capacity_given(b);
-    zone_at(b, HEADER_BYTES + ZONE_BYTES * i, given)
+    is_faultless(zone_fault(z, expected, unit))
 }

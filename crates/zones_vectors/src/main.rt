@@ -2,7 +2,7 @@
 // of the refusal. The block is 4,096 bytes.
 ghost use Prim.Native.Nat.{_+_, _≤_, _<_};
 use types::Refusal;
-use zones::ReportCheck;
+use types::Verdict;
 use zones::Zone;
 
 // The block in sectors.
@@ -160,12 +160,12 @@ fn print_zone(refusal: Refusal) {
     }
 }
 
-fn print_check(check: ReportCheck) {
+fn print_check(check: Verdict) {
     match check {
-        ReportCheck::Good => {
+        Verdict::Passed => {
             io::print_decimal(1, 0);
         }
-        ReportCheck::Bad(refusal) => {
+        Verdict::Refused(refusal) => {
             io::print_decimal(1, types::answers::refusal_number(refusal));
             print_zone(refusal);
         }
@@ -175,7 +175,9 @@ fn print_check(check: ReportCheck) {
 fn show_report(label: &[u8], b: &[u8]) {
     io::write_all(1, label);
     io::write_all(1, b": ");
-    print_check(report::check_report(b, UNIT));
+    let read = report::check_report(b, UNIT, false);
+    let check = read.check;
+    print_check(check);
     io::write_all(1, b"\n");
 }
 

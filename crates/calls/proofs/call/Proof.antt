@@ -1,6 +1,6 @@
 use mathlib.Core.Path.{_∙_, sym}
 use borrow.Author.Tests.{not-true, not-false}
-use Rattle.calls.proofs.Laws.{file-counts, file-none, file-found}
+use Rattle.checks.proofs.Laws.{file-counts, file-none, file-found}
 use borrow.Author.Needs.{needs}
 use Rattle.calls.proofs.call.Statement.{statement}
 use Rattle.calls.proofs.call.Tie as tie
@@ -15,8 +15,8 @@ returns : tie.Need-returns
 returns c = let a = c .before .before .before .before .before .before .args in
     simp (file-counts _ (a .cnv .now) (a .seq .now) (a .kind) (a .number) (sym (c .before .before .counts-fit .ensures .0) ∙ not-true _ (c .before .if1 .taken)), c .refused .ensures)
 
-lookup-requires : tie.Need-lookup-requires
-lookup-requires c κs = sym (c .before .counts-fit .ensures .0) ∙ not-false _ (c .if1 .left)
+lookup-of-requires : tie.Need-lookup-of-requires
+lookup-of-requires c κs = sym (c .before .counts-fit .ensures .0) ∙ not-false _ (c .if1 .left)
 
 enum-known-slot : tie.Need-enum-known-slot
 enum-known-slot c = search needs
@@ -28,13 +28,13 @@ refused-requires-2 : tie.Need-refused-requires-2
 refused-requires-2 c κs = search needs
 
 returns-2 : tie.Need-returns-2
-returns-2 c = simp (file-none _ _ _ _ _ (sym (c .before .before .before .before .before .counts-fit .ensures .0) ∙ not-false _ (c .before .before .before .before .if1 .left)) (sym (c .before .before .before .lookup .ensures) ∙ c .before .enum-told .given .1), c .refused2 .ensures)
+returns-2 c = simp (file-none _ _ _ _ _ (sym (c .before .before .before .before .before .counts-fit .ensures .0) ∙ not-false _ (c .before .before .before .before .if1 .left)) (sym (c .before .before .before .lookup-of .ensures) ∙ c .before .enum-told .given .1), c .refused2 .ensures)
 
 call-on-requires : tie.Need-call-on-requires
 call-on-requires c κs = c .before .before .before .before .before .counts-fit .ensures .1 (not-false _ (c .before .before .before .before .if1 .left))
 
 returns-3 : tie.Need-returns-3
-returns-3 c = simp (file-found _ _ _ _ _ (sym (c .before .before .before .before .before .before .counts-fit .ensures .0) ∙ not-false _ (c .before .before .before .before .before .if1 .left)) (sym (c .before .before .before .before .lookup .ensures) ∙ c .before .before .slot .given .1), c .call-on .ensures)
+returns-3 c = simp (file-found _ _ _ _ _ (sym (c .before .before .before .before .before .before .counts-fit .ensures .0) ∙ not-false _ (c .before .before .before .before .before .if1 .left)) (sym (c .before .before .before .before .lookup-of .ensures) ∙ c .before .before .slot .given .1), c .call-on .ensures)
 
 pub call-spec : {M : Type 1} → statement M
 call-spec =
@@ -43,7 +43,7 @@ call-spec =
     counts-fit-requires
     refused-requires
     returns
-    lookup-requires
+    lookup-of-requires
     enum-known-slot
     enum-told
     refused-requires-2

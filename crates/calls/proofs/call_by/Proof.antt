@@ -1,8 +1,11 @@
-use borrow.Author.Tests.{lt-ltb, le-ltb}
+use mathlib.Core.Path.{_∙_, sym}
 use Rattle.calls.specs.Calls.{outcomeBy}
 use borrow.Author.Needs.{needs}
 use Rattle.calls.proofs.call_by.Statement.{statement}
 use Rattle.calls.proofs.call_by.Tie as tie
+
+is-kind-requires : tie.Need-is-kind-requires
+is-kind-requires c κs = search needs
 
 kind-from-requires : tie.Need-kind-from-requires
 kind-from-requires c κs = search needs
@@ -18,11 +21,20 @@ refused-requires c κs = search needs
 
 returns : tie.Need-returns
 unfolding outcomeBy
-returns c = simp (lt-ltb _ _ (c .before .before .if1 .taken), c .call .ensures, c .before .kind-from .ensures)
+returns c = simp (sym (c .before .before .before .is-kind .ensures) ∙ c .before .before .if1 .taken, c .call .ensures, c .before .kind-from .ensures)
 
 returns-2 : tie.Need-returns-2
 unfolding outcomeBy
-returns-2 c = simp (le-ltb _ _ (c .before .before .before .if1 .left), c .refused .ensures, c .before .no-kind .ensures)
+returns-2 c = simp (sym (c .before .before .before .before .is-kind .ensures) ∙ c .before .before .before .if1 .left, c .refused .ensures, c .before .no-kind .ensures)
 
 pub call-by-spec : {M : Type 1} → statement M
-call-by-spec = tie.close (tie.spec kind-from-requires call-requires no-kind-requires refused-requires returns returns-2)
+call-by-spec =
+    tie.close
+    (tie.spec
+    is-kind-requires
+    kind-from-requires
+    call-requires
+    no-kind-requires
+    refused-requires
+    returns
+    returns-2)

@@ -13,7 +13,7 @@ same-length c = search needs
 
 returns : tie.Need-returns
 unfolding callWords
-returns c = let e = sym (c .before .is-usable .ensures .0) ∙ not-true _ (c .if1 .taken) in (simp e, (simp e, simp e))
+returns c = rw (sym (c .before .is-usable .ensures .0) ∙ not-true _ (c .if1 .taken))
 
 mount-from-requires : tie.Need-mount-from-requires
 mount-from-requires c κs = c .before .before .is-usable .ensures .1 (not-false _ (c .before .if1 .left)) .0
@@ -36,7 +36,7 @@ returns-2 c = let e = sym (c .before .before .before .before .before .before .be
     let t = c .before .before .before .before .tell .ensures in
     let o = c .before .before .before .before .before .call-by .ensures in
     let m = c .before .before .before .before .before .before .before .before .mount-from .ensures in
-    (simp (e, t .0, o, m), (simp (e, t .1 .0, o, m), simp (e, t .1 .1, o, m)))
+    rw (e, ← m, ← o) t
 
 pub call-spec : {M : Type 1} → statement M
 call-spec =

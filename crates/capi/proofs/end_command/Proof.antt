@@ -1,6 +1,7 @@
+use Rattle.capi.proofs.Tables.{with-tables}
 use mathlib.Core.Path.{_∙_, sym}
 use borrow.Author.Tests.{not-true, not-false}
-use Rattle.capi.specs.Interface.{completionWords, completionStore}
+use Rattle.capi.specs.Interface.{completionWords}
 use borrow.Author.Needs.{needs}
 use Rattle.capi.proofs.end_command.Statement.{statement}
 use Rattle.capi.proofs.end_command.Tie as tie
@@ -12,8 +13,8 @@ same-length : tie.Need-same-length
 same-length c = search needs
 
 returns : tie.Need-returns
-unfolding completionWords completionStore
-returns c = let e = sym (c .before .is-usable .ensures .0) ∙ not-true _ (c .if1 .taken) in (simp e, (simp e, (simp e, (simp e, simp e))))
+unfolding completionWords
+returns c = rw (sym (c .before .is-usable .ensures .0) ∙ not-true _ (c .if1 .taken))
 
 mount-from-requires : tie.Need-mount-from-requires
 mount-from-requires c κs = c .before .before .is-usable .ensures .1 (not-false _ (c .before .if1 .left)) .0
@@ -37,12 +38,12 @@ same-length-5 : tie.Need-same-length-5
 same-length-5 c = search needs
 
 returns-2 : tie.Need-returns-2
-unfolding completionWords completionStore
+unfolding completionWords
 returns-2 c = let e = sym (c .before .before .before .before .before .before .before .before .before .before .before .before .before .before .before .before .before .is-usable .ensures .0) ∙ not-false _ (c .before .before .before .before .before .before .before .before .before .before .before .before .before .before .before .before .if1 .left) in
     let t = c .before .before .before .before .tell .ensures in
     let o = c .before .before .before .before .before .before .before .before .before .end-command .ensures in
     let m = c .before .before .before .before .before .before .before .before .before .before .before .before .before .before .mount-from .ensures in
-    (simp (e, t .0, o .0, m), (simp (e, t .1 .0, o .0, m), (simp (e, o .1 .0, m), (simp (e, o .1 .1, m), simp (e, t .1 .1, o .0, m)))))
+    rw (e, ← m, ← o .0) (with-tables t (o .1 .0) (o .1 .1))
 
 pub end-command-spec : {M : Type 1} → statement M
 end-command-spec =

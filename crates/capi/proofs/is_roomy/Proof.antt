@@ -1,7 +1,7 @@
 use borrow.Author.Tests.{leb-true}
 use mathlib.Core.Path.{refl}
 use Rattle.types.proofs.Tests.{and-left, and-right}
-use Rattle.words.specs.Words.{mountLength}
+use Rattle.mount_words.specs.Words.{mountLength}
 use Rattle.capi.specs.Interface.{roomy}
 use lib.Dec.{leb}
 use Rattle.capi.proofs.is_roomy.Statement.{statement}

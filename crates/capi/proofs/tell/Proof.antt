@@ -1,4 +1,4 @@
-use Rattle.words.specs.Answers.{answerWords}
+use Rattle.answer_words.specs.Answers.{answerWords}
 use borrow.Author.Needs.{needs}
 use Rattle.capi.proofs.tell.Statement.{statement}
 use Rattle.capi.proofs.tell.Tie as tie
@@ -23,7 +23,7 @@ same-length-2 c = search needs
 
 returns : tie.Need-returns
 unfolding answerWords
-returns c = (c .answer-number .ensures, (c .before .before .before .before .before .before .before .before .put-state .ensures, simp (c .before .before .before .put-values .ensures, c .before .before .before .before .answer-values .ensures)))
+returns c = simp (c .answer-number .ensures, c .before .before .before .before .before .before .before .before .put-state .ensures, c .before .before .before .put-values .ensures, c .before .before .before .before .answer-values .ensures)
 
 pub tell-spec : {M : Type 1} → statement M
 tell-spec =

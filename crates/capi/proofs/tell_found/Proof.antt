@@ -1,4 +1,4 @@
-use Rattle.words.specs.Answers.{answerWords}
+use Rattle.answer_words.specs.Answers.{answerWords}
 use borrow.Author.Needs.{needs}
 use Rattle.capi.proofs.tell_found.Statement.{statement}
 use Rattle.capi.proofs.tell_found.Tie as tie
@@ -17,7 +17,7 @@ same-length c = search needs
 
 returns : tie.Need-returns
 unfolding answerWords
-returns c = (c .find-number .ensures, simp (c .before .before .before .put-values .ensures, c .before .before .before .before .find-values .ensures))
+returns c = simp (c .find-number .ensures, c .before .before .before .put-values .ensures, c .before .before .before .before .find-values .ensures)
 
 pub tell-found-spec : {M : Type 1} → statement M
 tell-found-spec =

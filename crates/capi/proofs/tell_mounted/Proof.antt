@@ -1,4 +1,4 @@
-use Rattle.words.specs.Answers.{answerWords}
+use Rattle.answer_words.specs.Answers.{answerWords}
 use borrow.Author.Needs.{needs}
 use Rattle.capi.proofs.tell_mounted.Statement.{statement}
 use Rattle.capi.proofs.tell_mounted.Tie as tie
@@ -23,7 +23,7 @@ same-length-2 c = search needs
 
 returns : tie.Need-returns
 unfolding answerWords
-returns c = (c .mount-number .ensures, (c .before .before .before .before .before .before .before .before .put-mount .ensures, simp (c .before .before .before .put-values .ensures, c .before .before .before .before .mount-values .ensures)))
+returns c = simp (c .mount-number .ensures, c .before .before .before .before .before .before .before .before .put-mount .ensures, c .before .before .before .put-values .ensures, c .before .before .before .before .mount-values .ensures)
 
 pub tell-mounted-spec : {M : Type 1} → statement M
 tell-mounted-spec =

@@ -1,4 +1,4 @@
-use Rattle.words.specs.Answers.{answerWords}
+use Rattle.answer_words.specs.Answers.{answerWords}
 use borrow.Author.Needs.{needs}
 use Rattle.capi.proofs.tell_shown.Statement.{statement}
 use Rattle.capi.proofs.tell_shown.Tie as tie
@@ -17,7 +17,7 @@ same-length c = search needs
 
 returns : tie.Need-returns
 unfolding answerWords
-returns c = (c .show-number .ensures, simp (c .before .before .before .put-values .ensures, c .before .before .before .before .show-values .ensures))
+returns c = simp (c .show-number .ensures, c .before .before .before .put-values .ensures, c .before .before .before .before .show-values .ensures)
 
 pub tell-shown-spec : {M : Type 1} → statement M
 tell-shown-spec =

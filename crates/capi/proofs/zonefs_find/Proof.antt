@@ -10,7 +10,7 @@ is-usable-requires c κs = search needs
 
 returns : tie.Need-returns
 unfolding findWords
-returns c = let e = sym (c .before .is-usable .ensures .0) ∙ not-true _ (c .if1 .taken) in (simp e, simp e)
+returns c = rw (sym (c .before .is-usable .ensures .0) ∙ not-true _ (c .if1 .taken))
 
 mount-from-requires : tie.Need-mount-from-requires
 mount-from-requires c κs = c .before .is-usable .ensures .1 (not-false _ (c .if1 .left)) .0
@@ -30,7 +30,7 @@ returns-2 c = let e = sym (c .before .before .before .before .before .before .be
     let t = c .before .before .tell-found .ensures in
     let x = c .before .before .before .find .ensures in
     let m = c .before .before .before .before .before .mount-from .ensures in
-    (simp (e, t .0, x, m), simp (e, t .1, x, m))
+    rw (e, ← m, ← x) t
 
 pub zonefs-find-spec : {M : Type 1} → statement M
 zonefs-find-spec =

@@ -1,6 +1,7 @@
+use Rattle.capi.proofs.Tables.{with-tables}
 use mathlib.Core.Path.{_∙_, sym}
 use borrow.Author.Tests.{not-true, not-false}
-use Rattle.capi.specs.Interface.{mountGiven, mountCnv, mountSeq}
+use Rattle.capi.specs.Interface.{mountGiven}
 use borrow.Author.Needs.{needs}
 use Rattle.capi.proofs.zonefs_mount.Statement.{statement}
 use Rattle.capi.proofs.zonefs_mount.Tie as tie
@@ -9,8 +10,8 @@ is-roomy-requires : tie.Need-is-roomy-requires
 is-roomy-requires c κs = search needs
 
 returns : tie.Need-returns
-unfolding mountGiven mountCnv mountSeq
-returns c = let e = sym (c .before .is-roomy .ensures .0) ∙ not-true _ (c .if1 .taken) in (simp e, (simp e, (simp e, (simp e, simp e))))
+unfolding mountGiven
+returns c = rw (sym (c .before .is-roomy .ensures .0) ∙ not-true _ (c .if1 .taken))
 
 mount-requires : tie.Need-mount-requires
 mount-requires c κs = search needs
@@ -31,11 +32,11 @@ same-length-4 : tie.Need-same-length-4
 same-length-4 c = search needs
 
 returns-2 : tie.Need-returns-2
-unfolding mountGiven mountCnv mountSeq
+unfolding mountGiven
 returns-2 c = let e = sym (c .before .before .before .before .before .before .before .before .before .before .before .before .before .before .before .is-roomy .ensures .0) ∙ not-false _ (c .before .before .before .before .before .before .before .before .before .before .before .before .before .before .if1 .left) in
     let t = c .before .before .before .before .tell-mounted .ensures in
     let o = c .before .before .before .before .before .before .before .before .before .mount .ensures in
-    (simp (e, t .0, o .0), (simp (e, o .1 .1 .0), (simp (e, o .1 .1 .1), (simp (e, t .1 .0, o .1 .0), simp (e, t .1 .1, o .0)))))
+    rw (e, ← o .0, ← o .1 .0) (with-tables t (o .1 .1 .0) (o .1 .1 .1))
 
 pub zonefs-mount-spec : {M : Type 1} → statement M
 zonefs-mount-spec =

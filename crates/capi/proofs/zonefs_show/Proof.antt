@@ -10,13 +10,13 @@ is-usable-requires c κs = search needs
 
 returns : tie.Need-returns
 unfolding showWords
-returns c = let e = sym (c .before .is-usable .ensures .0) ∙ not-true _ (c .if1 .taken) in (simp e, simp e)
+returns c = rw (sym (c .before .is-usable .ensures .0) ∙ not-true _ (c .if1 .taken))
 
 mount-from-requires : tie.Need-mount-from-requires
 mount-from-requires c κs = c .before .is-usable .ensures .1 (not-false _ (c .if1 .left)) .0
 
-show-answer-requires : tie.Need-show-answer-requires
-show-answer-requires c κs = search needs
+show-by-requires : tie.Need-show-by-requires
+show-by-requires c κs = search needs
 
 tell-shown-requires : tie.Need-tell-shown-requires
 tell-shown-requires c κs = c .before .before .before .before .is-usable .ensures .1 (not-false _ (c .before .before .before .if1 .left)) .1
@@ -28,9 +28,9 @@ returns-2 : tie.Need-returns-2
 unfolding showWords
 returns-2 c = let e = sym (c .before .before .before .before .before .before .before .is-usable .ensures .0) ∙ not-false _ (c .before .before .before .before .before .before .if1 .left) in
     let t = c .before .before .tell-shown .ensures in
-    let x = c .before .before .before .show-answer .ensures in
+    let x = c .before .before .before .show-by .ensures in
     let m = c .before .before .before .before .before .mount-from .ensures in
-    (simp (e, t .0, x, m), simp (e, t .1, x, m))
+    rw (e, ← m, ← x) t
 
 pub zonefs-show-spec : {M : Type 1} → statement M
 zonefs-show-spec =
@@ -39,7 +39,7 @@ zonefs-show-spec =
     is-usable-requires
     returns
     mount-from-requires
-    show-answer-requires
+    show-by-requires
     tell-shown-requires
     same-length
     returns-2)

@@ -1,5 +1,6 @@
-use Rattle.completion.specs.Completions.{completionBy, digestOf}
-use Rattle.completion.proofs.Laws.{success-safe, failure-safe, digest-fits}
+use Rattle.completion.specs.Completions.{completionBy, effectOf}
+use Rattle.held.proofs.Laws.{pending-safe}
+use Rattle.completion.proofs.Laws.{effect-fits}
 use borrow.Author.Needs.{needs}
 use Rattle.completion.proofs.end_command.Statement.{statement}
 use Rattle.completion.proofs.end_command.Tie as tie
@@ -7,19 +8,17 @@ use Rattle.completion.proofs.end_command.Tie as tie
 find-pending-requires : tie.Need-find-pending-requires
 find-pending-requires c κs = search needs
 
-digest-pending-requires : tie.Need-digest-pending-requires
-digest-pending-requires c κs =
+effect-pending-requires : tie.Need-effect-pending-requires
+effect-pending-requires c κs =
     let a = c .before .before .before .before .before .before .args in
-    let pending = c .find-pending .result in
-    let told = c .find-pending .ensures .1 in
-    (success-safe (a .m) (a .cnv .now) (a .seq .now) pending told, failure-safe (a .m) (a .cnv .now) (a .seq .now) pending told)
+    pending-safe (a .m) (a .cnv .now) (a .seq .now) (c .find-pending .result) (c .find-pending .ensures .1)
 
 put-store-requires : tie.Need-put-store-requires
 put-store-requires c κs =
     let a = c .before .before .before .before .before .before .before .before .before .before .args in
     let pending = c .before .before .before .before .find-pending in
-    simp (c .before .before .before .digest-pending .ensures)
-    (digest-fits (a .m) (a .cnv .now) (a .seq .now) (pending .result) (completionBy (a .done) (a .given) (a .bytes .now)) (pending .ensures .1))
+    simp (c .before .before .before .effect-pending .ensures)
+    (effect-fits (a .m) (a .cnv .now) (a .seq .now) (pending .result) (completionBy (a .done) (a .given) (a .bytes .now)) (pending .ensures .1))
 
 same-length : tie.Need-same-length
 same-length c = search needs
@@ -28,19 +27,19 @@ same-length-2 : tie.Need-same-length-2
 same-length-2 c = search needs
 
 returns : tie.Need-returns
-unfolding digestOf
+unfolding effectOf
 returns c =
     let put = c .before .before .before .before .put-store .ensures in
-    let digest = c .before .before .before .before .before .before .before .before .digest-pending .ensures in
+    let effect = c .before .before .before .before .before .before .before .before .effect-pending .ensures in
     let pending = c .before .before .before .before .before .before .before .before .before .find-pending .ensures .0 in
-    (simp (digest, pending), (simp (put .0, digest, pending), simp (put .1, digest, pending)))
+    (simp (effect, pending), (simp (put .0, effect, pending), simp (put .1, effect, pending)))
 
 pub end-command-spec : {M : Type 1} → statement M
 end-command-spec =
     tie.close
     (tie.spec
     find-pending-requires
-    digest-pending-requires
+    effect-pending-requires
     put-store-requires
     same-length
     same-length-2

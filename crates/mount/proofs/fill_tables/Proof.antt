@@ -6,15 +6,8 @@ use Rattle.mount.proofs.fill_tables.Tie as tie
 enum-told : tie.Need-enum-told
 enum-told c = search needs
 
-write-cnv-requires : tie.Need-write-cnv-requires
-write-cnv-requires c κs =
-    let f = c .before .before .before .before .before .before .pre _ _ (c .before .enum-told .given .1) in
-    (f .frame, f .sound, f .cnvs)
-
-write-seq-requires : tie.Need-write-seq-requires
-write-seq-requires c κs =
-    let f = c .before .before .before .before .before .before .before .before .before .before .pre _ _ (c .before .before .before .before .before .enum-told .given .1) in
-    (f .frame, f .sound, f .seqs)
+write-files-requires : tie.Need-write-files-requires
+write-files-requires c κs = c .before .before .before .before .before .before .before .pre _ _ (c .before .before .enum-told .given .1)
 
 enum-told-2 : tie.Need-enum-told-2
 enum-told-2 c = search needs
@@ -27,8 +20,7 @@ same-length-2 c = search needs
 
 returns : tie.Need-returns
 unfolding tableAfter
-returns c =
-    rw (c .before .before .before .before .before .before .before .before .enum-told .given .1) (c .before .before .before .before .before .before .write-cnv .ensures, c .before .before .write-seq .ensures)
+returns c = rw (c .before .before .before .before .before .before .before .enum-told .given .1) (c .before .before .before .before .write-files .ensures .0, c .before .before .before .before .write-files .ensures .1)
 
 returns-2 : tie.Need-returns-2
 unfolding tableAfter
@@ -39,8 +31,7 @@ fill-tables-spec =
     tie.close
     (tie.spec
     enum-told
-    write-cnv-requires
-    write-seq-requires
+    write-files-requires
     enum-told-2
     same-length
     same-length-2

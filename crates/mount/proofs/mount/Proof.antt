@@ -1,5 +1,5 @@
 use Rattle.mount.proofs.Mounted.{answer-fits, outcome-is}
-use mathlib.Core.Path.{_≡_, _∙_, sym}
+use mathlib.Core.Path.{_∙_, sym}
 use borrow.Author.Needs.{needs}
 use Rattle.mount.proofs.mount.Statement.{statement}
 use Rattle.mount.proofs.mount.Tie as tie
@@ -16,16 +16,15 @@ rows-lent-requires c κs = search needs
 rows-lent-requires-2 : tie.Need-rows-lent-requires-2
 rows-lent-requires-2 c κs = search needs
 
-answer-of-requires : tie.Need-answer-of-requires
-answer-of-requires c κs = search needs
+mount-answer-requires : tie.Need-mount-answer-requires
+mount-answer-requires c κs = search needs
 
 fill-tables-requires : tie.Need-fill-tables-requires
-fill-tables-requires c κs =
-    λ k s e.
-    let f = answer-fits _ _ _ _ _ _ _ k s (sym (c .before .before .answer-of .ensures) ∙ e) in
+fill-tables-requires c κs = λ k s e.
+    let f = answer-fits _ _ _ _ _ _ _ k s (sym (c .before .before .mount-answer .ensures) ∙ e) in
     record {
       frame = f .frame;
-      sound = f .sound;
+      bounded = f .bounded;
       cnvs = rw (c .before .before .before .before .rows-lent .ensures) at (f .cnvs);
       seqs = rw (c .before .before .before .rows-lent2 .ensures) at (f .seqs);
     }
@@ -50,7 +49,7 @@ returns c =
     (c .before .before .before .before .before .before .before .before .before .before .before .before .read-options .ensures)
     (c .before .before .before .before .before .before .before .before .before .before .before .rows-lent .ensures)
     (c .before .before .before .before .before .before .before .before .before .before .rows-lent2 .ensures)
-    (c .before .before .before .before .before .before .before .before .before .answer-of .ensures)
+    (c .before .before .before .before .before .before .before .before .before .mount-answer .ensures)
     (c .before .policy-of .ensures)
     (c .mount-of .ensures)
     (c .before .before .before .before .before .before .fill-tables .ensures .0)
@@ -65,7 +64,7 @@ mount-spec =
     read-options-requires
     rows-lent-requires
     rows-lent-requires-2
-    answer-of-requires
+    mount-answer-requires
     fill-tables-requires
     policy-of-requires
     mount-of-requires

@@ -36,11 +36,11 @@ use denote.Triple.Table.{entered, cited}
 use denote.Triple.Walked.{says, needs, Stays, stay-none, stay-none-slice, walkOf, goes-none, goes-none-slice, Walks, ends-at, walked, walk-meets}
 use denote.Exit.{yes}
 use denote.Triple.Clauses.{ensured, lasts}
-use Rattle.zones.specs.Report.{zoneOf}
 use Rattle.zones.specs.declared.Zone.{Zone}
 use Rattle.zones.proofs.Zone as Z
 use Rattle.zones.proofs.Zone.Laws as Z′
 use Rattle.report.specs.declared.Reader.{Reader}
+use Rattle.report.specs.Report.{reportZone}
 use Rattle.report.proofs.Held.{Ready, Row}
 use Rattle.report.proofs.Reader as T
 use Rattle.report.proofs.Reader.Laws as T′
@@ -82,8 +82,8 @@ module _ {M : Type 1} (𝓤 : URA M) (H : Heap 𝓤) (A : Atoms 𝓤) (mem : Mem
   moved-said : (κ : Lft) (h : Reader) (n : ℕ) (r : Reader) → ent 𝓤 (ensured 𝓤 H A moved.ended (moved.clauses 𝓤 H A mem run) (κ, tt) (h, (n, tt)) tt r) (fact 𝓤 ((r .report ≡ h .report) × (r .next ≡ n)))
   moved-said κ h n r = exE 𝓤 _ (λ ws. snd∗ 𝓤 (sem 𝓤 H A (lasts moved.ended (κ, tt) (h, (n, tt)) ws)) (fact 𝓤 ((r .report ≡ h .report) × (r .next ≡ n))))
 
-  next-said : (κ : Lft) (h : Reader) (z : Zone) → ent 𝓤 (ensured 𝓤 H A next.ended (next.clauses 𝓤 H A mem run) (κ, tt) (h, tt) tt z) (fact 𝓤 (z ≡ zoneOf (now (h .report)) (h .next)))
-  next-said κ h z = exE 𝓤 _ (λ ws. snd∗ 𝓤 (sem 𝓤 H A (lasts next.ended (κ, tt) (h, tt) ws)) (fact 𝓤 (z ≡ zoneOf (now (h .report)) (h .next))))
+  next-said : (κ : Lft) (h : Reader) (z : Zone) → ent 𝓤 (ensured 𝓤 H A next.ended (next.clauses 𝓤 H A mem run) (κ, tt) (h, tt) tt z) (fact 𝓤 (z ≡ reportZone (now (h .report)) (h .next)))
+  next-said κ h z = exE 𝓤 _ (λ ws. snd∗ 𝓤 (sem 𝓤 H A (lasts next.ended (κ, tt) (h, tt) ws)) (fact 𝓤 (z ≡ reportZone (now (h .report)) (h .next))))
 
 module _ {M : Type 1} (𝓤 : URA M) (H : Heap 𝓤) (A : Atoms 𝓤) (W : Given 𝓤 H A) (mem : Memory → SProp 𝓤) (run : Routine → Fun 𝓤) (κ : Lft) (q : Share) (s : RefT (List ℕ)) (n : ℕ) (ok : n < 2 ^ 64) (ready : Ready (record { report = s; next = n })) where
   -- the machine value that s has
@@ -98,7 +98,7 @@ module _ {M : Type 1} (𝓤 : URA M) (H : Heap 𝓤) (A : Atoms 𝓤) (W : Given
   h₁ = record { report = s; next = n }
 
   abbrev found : Zone
-  found = zoneOf (now s) n
+  found = reportZone (now s) n
 
   abbrev at : Vals read-zone.signature (κ, tt)
   at = (v ∷ [], (vint w64 n ∷ [], tt))

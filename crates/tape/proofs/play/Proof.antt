@@ -1,19 +1,19 @@
 use Rattle.tape.specs.Tape.{tapeText}
-use borrow.Author.Needs.{needs}
+use mathlib.Core.Path.{refl}
 use Rattle.tape.proofs.play.Statement.{statement}
 use Rattle.tape.proofs.play.Tie as tie
 
 slice-aggregate-play-with : tie.Need-slice-aggregate-play-with
-slice-aggregate-play-with c = search needs
+slice-aggregate-play-with c = refl
 
 slice-aggregate-play-with-2 : tie.Need-slice-aggregate-play-with-2
-slice-aggregate-play-with-2 c = search needs
+slice-aggregate-play-with-2 c = refl
 
 play-with-requires : tie.Need-play-with-requires
-play-with-requires c κs = search needs
+play-with-requires c κs = tt
 
 same-length : tie.Need-same-length
-same-length c = search needs
+same-length c = c .before .before .before .before .play-with .kept .1 .1 .1 .0
 
 returns : tie.Need-returns
 unfolding tapeText

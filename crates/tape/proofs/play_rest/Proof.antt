@@ -1,13 +1,13 @@
-use Prim.Native.Nat.{ℕ, _<_}
-use mathlib.Core.Path.{_≡_, refl, sym, _∙_, subst, ap}
+use Prim.Native.Nat.{ℕ}
+use mathlib.Core.Path.{_≡_, refl, _∙_, subst}
 use mathlib.Core.Bool.{_&&_, false}
 use lib.Dec.{leb}
 use lib.ListN.{length}
 use borrow.Author.Tests.{leb-true}
 use Rattle.types.proofs.Tests.{and-left, and-right}
-use Rattle.tape.specs.Tape.{Rest, goesFurther, textFrom}
-use Rattle.tape.specs.Told.{restOf}
-use Rattle.tape.proofs.Playing.{left, less, Going, begin, again, over}
+use Rattle.tape.specs.Tape.{goesFurther, textFrom}
+use Rattle.tape.specs.Facts.{restOf}
+use Rattle.tape.proofs.Playing.{left, fewer, Going, begin, again, over}
 use Rattle.tape.proofs.play_rest.Statement.{statement}
 use Rattle.tape.proofs.play_rest.Tie as tie
 
@@ -27,9 +27,8 @@ turn-into-requires c κs = let r = restOf (c .before .before .before .before .be
     leb-true (c .before .before .before .before .before .before .before .loop .t .to) (length (c .before .before .before .before .before .before .before .loop .out)) (and-right (goesFurther (c .before .before .before .before .before .before .before .before .before .before .before .before .args .b .now) r) _ (c .before .before .before .if1 .taken))
 
 loop-less : tie.Need-loop-less Inv-loop μ-loop
-loop-less c = let b = c .before .before .before .before .before .before .before .before .before .before .before .before .before .before .before .before .before .before .before .args .b .now in
-    let r = restOf (c .before .before .before .before .before .before .before .before .before .before .before .before .before .before .loop .t) (c .before .before .before .before .before .before .before .before .before .before .before .before .before .before .loop .cnv) (c .before .before .before .before .before .before .before .before .before .before .before .before .before .before .loop .seq) in
-    subst (λ (x : Rest). left b x < left b r) (sym (c .before .before .before .before .before .before .turn-into .ensures .rest)) (less b r (and-left _ _ (c .before .before .before .before .before .before .before .before .before .before .if1 .taken)))
+loop-less c = let l = c .before .before .before .before .before .before .before .before .before .before .before .before .before .before .loop in
+    fewer (c .before .before .before .before .before .before .before .before .before .before .before .before .before .before .before .before .before .before .before .args .b .now) (restOf (l .t) (l .cnv) (l .seq)) (c .before .before .before .before .before .before .turn-into .result) (and-left _ _ (c .before .before .before .before .before .before .before .before .before .before .if1 .taken)) (c .before .before .before .before .before .before .turn-into .ensures)
 
 loop-again : tie.Need-loop-again Inv-loop μ-loop
 loop-again c = let k = c .before .before .before .before .before .before .turn-into .kept .1 .1 .1 in

@@ -1,14 +1,29 @@
-use Rattle.tape.specs.Tape.{textWith}
-use Rattle.tape.proofs.Playing.{tape-text, fitted, too-short}
+use mathlib.Core.Path.{_∙_}
+use Rattle.tape.specs.Tape.{openTurn}
+use native.Mathlib.Omega.{arith}
+use Rattle.tape.proofs.Turns.{copied-turn}
+use Rattle.tape.proofs.Playing.{tape-text, answered}
 use borrow.Author.Needs.{needs}
 use Rattle.tape.proofs.play_with.Statement.{statement}
 use Rattle.tape.proofs.play_with.Tie as tie
 
-open-into-requires : tie.Need-open-into-requires
-open-into-requires c κs = search needs
+slice-aggregate-open-tape : tie.Need-slice-aggregate-open-tape
+slice-aggregate-open-tape c = search needs
+
+open-tape-requires : tie.Need-open-tape-requires
+open-tape-requires c κs = search needs
+
+slice-aggregate-copy-turn : tie.Need-slice-aggregate-copy-turn
+slice-aggregate-copy-turn c = search needs
+
+copy-turn-requires : tie.Need-copy-turn-requires
+copy-turn-requires c κs = search needs
 
 play-rest-requires : tie.Need-play-rest-requires
-play-rest-requires c κs = search needs
+play-rest-requires c κs = tt
+
+played-to-requires : tie.Need-played-to-requires
+played-to-requires c κs = tt
 
 same-length : tie.Need-same-length
 same-length c = search needs
@@ -20,33 +35,22 @@ same-length-3 : tie.Need-same-length-3
 same-length-3 c = search needs
 
 returns : tie.Need-returns
-returns c = let f = tape-text (c .before .before .before .before .before .before .before .before .before .before .before .before .before .before .before .before .before .before .before .before .before .before .before .before .before .args .b .now) (c .before .before .before .before .before .before .before .before .before .before .before .before .before .before .before .before .before .before .before .before .before .before .before .before .before .args .cnv .now) (c .before .before .before .before .before .before .before .before .before .before .before .before .before .before .before .before .before .before .before .before .before .before .before .before .before .args .seq .now) (c .before .before .before .before .before .before .before .before .before .before .before .before .before .before .before .before .before .open-into .ensures) (c .before .before .before .before .before .before .before .play-rest .ensures) in
-    (fitted (textWith (c .before .before .before .before .before .before .before .before .before .before .before .before .before .before .before .before .before .before .before .before .before .before .before .before .before .args .b .now) (c .before .before .before .before .before .before .before .before .before .before .before .before .before .before .before .before .before .before .before .before .before .before .before .before .before .args .cnv .now) (c .before .before .before .before .before .before .before .before .before .before .before .before .before .before .before .before .before .before .before .before .before .before .before .before .before .args .seq .now)) f (c .if1 .taken), f .bytes)
-
-same-length-4 : tie.Need-same-length-4
-same-length-4 c = search needs
-
-same-length-5 : tie.Need-same-length-5
-same-length-5 c = search needs
-
-same-length-6 : tie.Need-same-length-6
-same-length-6 c = search needs
-
-returns-2 : tie.Need-returns-2
-returns-2 c = let f = tape-text (c .before .before .before .before .before .before .before .before .before .before .before .before .before .before .before .before .before .before .before .before .before .before .before .before .before .args .b .now) (c .before .before .before .before .before .before .before .before .before .before .before .before .before .before .before .before .before .before .before .before .before .before .before .before .before .args .cnv .now) (c .before .before .before .before .before .before .before .before .before .before .before .before .before .before .before .before .before .before .before .before .before .before .before .before .before .args .seq .now) (c .before .before .before .before .before .before .before .before .before .before .before .before .before .before .before .before .before .open-into .ensures) (c .before .before .before .before .before .before .before .play-rest .ensures) in
-    (too-short (textWith (c .before .before .before .before .before .before .before .before .before .before .before .before .before .before .before .before .before .before .before .before .before .before .before .before .before .args .b .now) (c .before .before .before .before .before .before .before .before .before .before .before .before .before .before .before .before .before .before .before .before .before .before .before .before .before .args .cnv .now) (c .before .before .before .before .before .before .before .before .before .before .before .before .before .before .before .before .before .before .before .before .before .before .before .before .before .args .seq .now)) f (c .if1 .left), f .bytes)
+returns c = let a = c .before .before .before .before .before .before .before .before .before .before .before .before .before .before .before .before .before .before .before .before .before .before .before .before .before .before .before .before .before .args in
+    let t = copied-turn {t = openTurn (a .b .now) (a .cnv .now) (a .seq .now)} (c .before .before .before .before .before .before .before .before .before .before .before .before .before .before .before .before .before .before .before .before .before .open-tape .ensures) (omega arith) (c .before .before .before .before .before .before .before .before .before .before .before .before .before .copy-turn .ensures) in
+    let f = tape-text (a .b .now) (a .cnv .now) (a .seq .now) t (c .before .before .before .before .before .before .before .play-rest .ensures) in
+    (c .played-to .ensures ∙ answered _ f, f .bytes)
 
 pub play-with-spec : {M : Type 1} → statement M
 play-with-spec =
     tie.close
     (tie.spec
-    open-into-requires
+    slice-aggregate-open-tape
+    open-tape-requires
+    slice-aggregate-copy-turn
+    copy-turn-requires
     play-rest-requires
+    played-to-requires
     same-length
     same-length-2
     same-length-3
-    returns
-    same-length-4
-    same-length-5
-    same-length-6
-    returns-2)
+    returns)

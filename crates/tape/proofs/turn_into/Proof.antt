@@ -10,11 +10,11 @@ slice-aggregate-take-turn c = search needs
 take-turn-requires : tie.Need-take-turn-requires
 take-turn-requires c κs = search needs
 
-slice-aggregate-copy-line : tie.Need-slice-aggregate-copy-line
-slice-aggregate-copy-line c = search needs
+slice-aggregate-copy-turn : tie.Need-slice-aggregate-copy-turn
+slice-aggregate-copy-turn c = search needs
 
-copy-line-requires : tie.Need-copy-line-requires
-copy-line-requires c κs = search needs
+copy-turn-requires : tie.Need-copy-turn-requires
+copy-turn-requires c κs = search needs
 
 same-length : tie.Need-same-length
 same-length c = search needs
@@ -26,7 +26,7 @@ same-length-3 : tie.Need-same-length-3
 same-length-3 c = search needs
 
 returns : tie.Need-returns
-returns c = copied-turn (c .before .before .before .before .before .before .before .before .before .before .before .take-turn .ensures) (omega arith) (c .before .before .before .copy-line .ensures)
+returns c = copied-turn (c .before .before .before .before .before .before .before .before .before .before .take-turn .ensures) (omega arith) (c .before .before .copy-turn .ensures)
 
 pub turn-into-spec : {M : Type 1} → statement M
 turn-into-spec =
@@ -34,8 +34,8 @@ turn-into-spec =
     (tie.spec
     slice-aggregate-take-turn
     take-turn-requires
-    slice-aggregate-copy-line
-    copy-line-requires
+    slice-aggregate-copy-turn
+    copy-turn-requires
     same-length
     same-length-2
     same-length-3

@@ -1,14 +1,16 @@
-use Rattle.zones.specs.Zone.{goodZone}
+use Rattle.zones.proofs.Laws.{zone-faultless}
 use borrow.Author.Needs.{needs}
 use Rattle.zones.proofs.good_zone.Statement.{statement}
 use Rattle.zones.proofs.good_zone.Tie as tie
 
-good-record-requires : tie.Need-good-record-requires
-good-record-requires c κs = search needs
+zone-fault-requires : tie.Need-zone-fault-requires
+zone-fault-requires c κs = search needs
+
+is-faultless-requires : tie.Need-is-faultless-requires
+is-faultless-requires c κs = search needs
 
 returns : tie.Need-returns
-unfolding goodZone
-returns c = rw (c .before .good-record .ensures)
+returns c = rw (c .is-faultless .ensures, c .before .zone-fault .ensures, zone-faultless)
 
 pub good-zone-spec : {M : Type 1} → statement M
-good-zone-spec = tie.close (tie.spec good-record-requires returns)
+good-zone-spec = tie.close (tie.spec zone-fault-requires is-faultless-requires returns)

@@ -1,4 +1,3 @@
-use mathlib.Core.Path.{sym}
 use Rattle.types.proofs.Blocks.{on-large}
 use Rattle.types.proofs.units.on_block.Statement.{statement}
 use Rattle.types.proofs.units.on_block.Tie as tie

@@ -1,9 +1,0 @@
-use Rattle.calls.proofs.Laws.{sectors-on}
-use Rattle.calls.proofs.checks.sectors_on_block.Statement.{statement}
-use Rattle.calls.proofs.checks.sectors_on_block.Tie as tie
-
-returns : tie.Need-returns
-returns c = sectors-on (c .args .block) (c .args .n) (c .pre)
-
-pub sectors-on-block-spec : {M : Type 1} → statement M
-sectors-on-block-spec = tie.close (tie.spec returns)

@@ -1,0 +1,190 @@
+-- What the shared checks tell, and what passes them. Whoever uses these opens none of the chains.
+-- Assumes nothing.
+use Prim.Native.Nat.{ℕ, _+_, _/_, _^_, _≤_, _<_}
+use native.Mathlib.Omega.{arith}
+use mathlib.Core.Path.{_≡_, refl, ap}
+use mathlib.Core.Bool.{Bool, true, false, not, _&&_, _||_, cond, false≢true}
+use mathlib.Core.List.{List}
+use lib.ListN.{length}
+use lib.Dec.{leb, ltb, eqb}
+use borrow.Author.Tests.{leb-true, ltb-true, ltb-false, eqb-true, lt-ltb}
+use Rattle.types.specs.declared.Volume.{Volume}
+use Rattle.types.specs.declared.Row.{Row}
+use Rattle.types.specs.declared.FileKind.{FileKind}
+use Rattle.types.specs.declared.FileKind.the-variants.{Conventional, Sequential}
+use Rattle.types.specs.declared.Condition.{Condition}
+use Rattle.types.specs.declared.Condition.the-variants as condition
+use Rattle.types.specs.declared.Access.{Access}
+use Rattle.types.specs.declared.Access.the-variants as access
+use Rattle.types.specs.declared.Refusal.the-variants as refusal
+use Rattle.types.specs.Blocks.{sectorBytes, blockSectors, goodBlock, onBlock, mostFiles}
+use Rattle.types.specs.Kinds.{ofKind, filesOf}
+use Rattle.types.specs.Predicates.{means, isConventional, isReadOnly, isOffline, isNone, isWrite}
+use Rattle.types.proofs.Tests.{both, and-left, and-right, means-out}
+use Rattle.types.proofs.PredicateLaws.{none-is, some-is}
+use Rattle.table.specs.declared.Slot.{Slot}
+use Rattle.table.specs.declared.Slot.the-variants as slot
+use Rattle.table.specs.Rows.{rowsLent, rowAt}
+use Rattle.checks.specs.declared.Lookup.{Lookup}
+use Rattle.checks.specs.declared.Lookup.the-variants as lookup
+use Rattle.checks.specs.declared.Checked.the-variants as checked
+use Rattle.checks.specs.Checks.{filesFit, countsFit, rowIn, lookupOf, allowed, full, soundRow, soundSlot, foundRow, fileOf}
+use Rattle.checks.specs.Facts.{SoundRow, Reached}
+
+-- 10 (COUNTS)
+
+module _ (v : Volume) (c s : ℕ) (h : countsFit v c s ≡ true) where
+  pub counts-good : goodBlock (v .block) ≡ true
+  unfolding countsFit
+  counts-good = and-right (filesFit (v .conventional) c && filesFit (v .sequential) s) _ h
+
+  counts-files : (k : FileKind) → filesFit (filesOf k v) (ofKind k c s) ≡ true
+  unfolding countsFit
+  counts-files Conventional = and-left _ (filesFit (v .sequential) s) (and-left _ (goodBlock (v .block)) h)
+  counts-files Sequential = and-right (filesFit (v .conventional) c) _ (and-left _ (goodBlock (v .block)) h)
+
+  pub counts-lent : (k : FileKind) → filesOf k v ≤ rowsLent (ofKind k c s)
+  counts-lent k = leb-true (filesOf k v) (rowsLent (ofKind k c s)) (and-left _ (leb (filesOf k v) mostFiles) (counts-files k))
+
+  pub counts-most : (k : FileKind) → filesOf k v ≤ mostFiles
+  counts-most k = leb-true (filesOf k v) mostFiles (and-right (leb (filesOf k v) (rowsLent (ofKind k c s))) _ (counts-files k))
+
+-- 10 (ROW)
+
+not-write : (a : Access) → not (isWrite a) ≡ true → a ≡ access.Write → ⊥
+not-write a h e = false≢true (rw e at h)
+
+-- what each access allows
+and-true : (b : Bool) → b ≡ b && true
+and-true true = refl
+and-true false = refl
+
+pub allowed-none : (c : Condition) (size : ℕ) → eqb size 0 ≡ allowed c access.Nothing size
+allowed-none condition.Healthy size = and-true (eqb size 0)
+allowed-none condition.ReadOnly size = and-true (eqb size 0)
+allowed-none condition.Offline size = and-true (eqb size 0)
+
+pub allowed-read : (c : Condition) (size : ℕ) → not (isOffline c) ≡ allowed c access.Read size
+allowed-read condition.Healthy size = refl
+allowed-read condition.ReadOnly size = refl
+allowed-read condition.Offline size = refl
+
+pub allowed-write : (c : Condition) (size : ℕ) → not (isOffline c) && not (isReadOnly c) ≡ allowed c access.Write size
+allowed-write condition.Healthy size = refl
+allowed-write condition.ReadOnly size = refl
+allowed-write condition.Offline size = refl
+
+-- a conventional file without access, or a full one
+pub full-conventional : (a : Access) (size capacity : ℕ) → isNone a || eqb size capacity ≡ full Conventional a size capacity
+full-conventional access.Nothing size capacity = refl
+full-conventional access.Read size capacity = refl
+full-conventional access.Write size capacity = refl
+
+module _ (block : ℕ) (k : FileKind) (r : Row) where
+  pub sound-row : soundRow block k r ≡ true → SoundRow block k r
+  unfolding soundRow
+  sound-row h =
+      let a1 : ltb 0 (r .start) ≡ true = search (and-left, and-right) depth 12 in
+      let a2 : onBlock (blockSectors block) (r .start) ≡ true = search (and-left, and-right) depth 12 in
+      let a3 : ltb 0 (r .capacity) ≡ true = search (and-left, and-right) depth 12 in
+      let a4 : onBlock block (r .capacity) ≡ true = search (and-left, and-right) depth 12 in
+      let a5 : leb (r .start + r .capacity / sectorBytes) (2 ^ 40) ≡ true = search (and-left, and-right) depth 12 in
+      let a6 : onBlock block (r .size) ≡ true = search (and-left, and-right) depth 12 in
+      let a7 : leb (r .size) (r .capacity) ≡ true = search (and-left, and-right) depth 12 in
+      let b1 : means (isOffline (r .condition)) (isNone (r .access)) ≡ true = search (and-left, and-right) depth 12 in
+      let b2 : means (isNone (r .access)) (eqb (r .size) 0) ≡ true = search (and-left, and-right) depth 12 in
+      let b3 : means (isReadOnly (r .condition)) (not (isWrite (r .access))) ≡ true = search (and-left, and-right) depth 12 in
+      let b4 : full k (r .access) (r .size) (r .capacity) ≡ true = search (and-left, and-right) depth 12 in
+      record {
+        started = ltb-true 0 (r .start) a1;
+        aligned = eqb-true _ 0 a2;
+        roomy = ltb-true 0 (r .capacity) a3;
+        whole = eqb-true _ 0 a4;
+        ends = leb-true (r .start + r .capacity / sectorBytes) (2 ^ 40) a5;
+        blocks = eqb-true _ 0 a6;
+        within = leb-true (r .size) (r .capacity) a7;
+        offline = λ e. none-is (r .access) (means-out (isOffline (r .condition)) _ b1 (rw e));
+        none = λ e. eqb-true (r .size) 0 (means-out (isNone (r .access)) _ b2 (rw e));
+        readonly = λ e. not-write (r .access) (means-out (isReadOnly (r .condition)) _ b3 (rw e));
+        full = λ e n. eqb-true (r .size) (r .capacity) (means-out (isConventional k && not (isNone (r .access))) _ b4 (both (ap isConventional e) (some-is (r .access) n)));
+      }
+
+-- 10 (COUNTS), 1, 10 (ROW)
+
+in-table : (t : List ℕ) (n i : ℕ) (x : Slot) → rowIn t n i ≡ lookup.Found x → (i < n) × (rowAt t i ≡ x)
+in-table t n i x h = by (ltb i n) (rowAt t i) refl h
+  where
+    by : (b : Bool) (y : Slot) → ltb i n ≡ b → cond b (lookup.Found y) lookup.Nothing ≡ lookup.Found x → (i < n) × (y ≡ x)
+    by true y e q = (ltb-true i n e, cc)
+    by false y e q = let z : _≡_ {A = ℕ} 0 1 = cc in absurd (omega arith)
+
+not-in-table : (t : List ℕ) (n i : ℕ) → rowIn t n i ≡ lookup.Nothing → n ≤ i
+not-in-table t n i h = by (ltb i n) refl h
+  where
+    by : (b : Bool) → ltb i n ≡ b → cond b (lookup.Found (rowAt t i)) lookup.Nothing ≡ lookup.Nothing → n ≤ i
+    by true e q = let z : _≡_ {A = ℕ} 0 1 = cc in absurd (omega arith)
+    by false e q = ltb-false i n e
+
+module _ (v : Volume) (cnv seq : List ℕ) (k : FileKind) (i : ℕ) where
+  pub lookup-some : (x : Slot) → lookupOf v cnv seq k i ≡ lookup.Found x → i < filesOf k v
+  unfolding lookupOf
+  lookup-some x e = in-table (ofKind k cnv seq) (filesOf k v) i x e .0
+
+  pub lookup-none : lookupOf v cnv seq k i ≡ lookup.Nothing → filesOf k v ≤ i
+  unfolding lookupOf
+  lookup-none e = not-in-table (ofKind k cnv seq) (filesOf k v) i e
+
+module _ (v : Volume) (cnv seq : List ℕ) (k : FileKind) (i : ℕ) (r : Row) where
+  -- a row that is found and sound
+  reached : countsFit v (length cnv) (length seq) ≡ true → lookupOf v cnv seq k i ≡ lookup.Found (slot.Good r) → soundRow (v .block) k r ≡ true
+      → Reached v cnv seq k i r
+  unfolding lookupOf
+  reached h e d = let (l, q) = in-table (ofKind k cnv seq) (filesOf k v) i (slot.Good r) e in record { counts = h; number = l; row = q; sound = d }
+
+  pub file-reached : fileOf v cnv seq k i ≡ checked.Good r → Reached v cnv seq k i r
+  unfolding fileOf
+  file-reached e = counted (countsFit v (length cnv) (length seq)) refl e
+    where
+      sounded : (y : Row) (t : Bool) → soundRow (v .block) k y ≡ t → countsFit v (length cnv) (length seq) ≡ true → lookupOf v cnv seq k i ≡ lookup.Found (slot.Good y)
+          → cond t (checked.Good y) (checked.Refused refusal.Impossible) ≡ checked.Good r → Reached v cnv seq k i r
+      sounded y true d h f e = let q : y ≡ r = cc in reached h (rw q at f) (rw q at d)
+      sounded y false d h f e = let z : _≡_ {A = ℕ} 0 1 = cc in absurd (omega arith)
+
+      looked : (x : Lookup) → countsFit v (length cnv) (length seq) ≡ true → lookupOf v cnv seq k i ≡ x → foundRow (v .block) k x ≡ checked.Good r → Reached v cnv seq k i r
+      looked (lookup.Found (slot.Good y)) h f e = sounded y (soundRow (v .block) k y) refl h f e
+      looked (lookup.Found slot.Impossible) h f e = let z : _≡_ {A = ℕ} 0 1 = cc in absurd (omega arith)
+      looked lookup.Nothing h f e = let z : _≡_ {A = ℕ} 0 1 = cc in absurd (omega arith)
+
+      counted : (t : Bool) → countsFit v (length cnv) (length seq) ≡ t
+          → cond t (foundRow (v .block) k (lookupOf v cnv seq k i)) (checked.Refused refusal.Impossible) ≡ checked.Good r → Reached v cnv seq k i r
+      counted true h e = looked (lookupOf v cnv seq k i) h refl e
+      counted false h e = let z : _≡_ {A = ℕ} 0 1 = cc in absurd (omega arith)
+
+  pub reached-file : Reached v cnv seq k i r → fileOf v cnv seq k i ≡ checked.Good r
+  unfolding fileOf lookupOf
+  reached-file w = simp (w .counts, lt-ltb i (filesOf k v) (w .number), w .row, w .sound)
+
+  -- its row is lent
+  pub reached-lent : Reached v cnv seq k i r → i < rowsLent (length (ofKind k cnv seq))
+  reached-lent w = lent k (w .number) (counts-lent v (length cnv) (length seq) (w .counts) k)
+    where
+      lent : (k : FileKind) → i < filesOf k v → filesOf k v ≤ rowsLent (ofKind k (length cnv) (length seq)) → i < rowsLent (length (ofKind k cnv seq))
+      lent Conventional a b = omega arith
+      lent Sequential a b = omega arith
+
+  pub reached-sound : Reached v cnv seq k i r → SoundRow (v .block) k r
+  reached-sound w = sound-row (v .block) k r (w .sound)
+
+-- in order: what the file is where a check refuses it, and past the counts and the lookup
+module _ (v : Volume) (cnv seq : List ℕ) (k : FileKind) (i : ℕ) where
+  pub file-counts : countsFit v (length cnv) (length seq) ≡ false → fileOf v cnv seq k i ≡ checked.Refused refusal.Impossible
+  unfolding fileOf
+  file-counts h = rw h
+
+  pub file-none : countsFit v (length cnv) (length seq) ≡ true → lookupOf v cnv seq k i ≡ lookup.Nothing → fileOf v cnv seq k i ≡ checked.Refused refusal.NoFile
+  unfolding fileOf
+  file-none h e = rw (h, e)
+
+  pub file-found : {x : Slot} → countsFit v (length cnv) (length seq) ≡ true → lookupOf v cnv seq k i ≡ lookup.Found x → fileOf v cnv seq k i ≡ soundSlot (v .block) k x
+  unfolding fileOf
+  file-found h e = rw (h, e)

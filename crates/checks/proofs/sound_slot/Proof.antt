@@ -1,0 +1,27 @@
+use mathlib.Core.Path.{_∙_, sym}
+use Rattle.checks.proofs.Laws.{sound-row}
+use borrow.Author.Needs.{needs}
+use Rattle.checks.proofs.sound_slot.Statement.{statement}
+use Rattle.checks.proofs.sound_slot.Tie as tie
+
+enum-known-slot : tie.Need-enum-known-slot
+enum-known-slot c = search needs
+
+enum-told : tie.Need-enum-told
+enum-told c = search needs
+
+returns : tie.Need-returns
+returns c = (simp (c .enum-told .given .1), tt)
+
+sound-row-requires : tie.Need-sound-row-requires
+sound-row-requires c κs = search needs
+
+returns-2 : tie.Need-returns-2
+returns-2 c = (simp (c .before .before .before .slot .given .1, sym (c .before .sound-row .ensures) ∙ c .if1 .taken), sound-row _ _ _ (sym (c .before .sound-row .ensures) ∙ c .if1 .taken) .ends)
+
+returns-3 : tie.Need-returns-3
+returns-3 c = (simp (c .before .before .before .slot .given .1, sym (c .before .sound-row .ensures) ∙ c .if1 .left), tt)
+
+pub sound-slot-spec : {M : Type 1} → statement M
+sound-slot-spec =
+    tie.close (tie.spec enum-known-slot enum-told returns sound-row-requires returns-2 returns-3)

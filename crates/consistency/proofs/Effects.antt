@@ -1,0 +1,94 @@
+-- What the completion of a ready command does to the words of its table.
+-- Assumes nothing.
+use Prim.Native.Nat.{ℕ, _<_}
+use mathlib.Core.Path.{_≡_, refl}
+use mathlib.Core.Bool.{Bool, true, false, cond}
+use mathlib.Core.List.{List}
+use lib.ListN.{length}
+use Rattle.types.specs.declared.Mount.{Mount}
+use Rattle.types.specs.declared.Row.{Row}
+use Rattle.types.specs.declared.Held.{Held}
+use Rattle.types.specs.declared.Command.{Command}
+use Rattle.types.specs.declared.FileKind.{FileKind}
+use Rattle.types.specs.declared.FileKind.the-variants.{Conventional, Sequential}
+use Rattle.types.specs.declared.Refusal.the-variants as refusal
+use Rattle.types.specs.declared.Answer.{Answer}
+use Rattle.types.specs.declared.Answer.the-variants.{Refused, Done}
+use Rattle.types.specs.declared.ErrorPolicy.{ErrorPolicy}
+use Rattle.types.specs.declared.ErrorPolicy.the-variants.{RemountRo, ZoneRo, ZoneOffline, Repair}
+use Rattle.types.specs.declared.Outstanding.the-variants.{Idle}
+use Rattle.types.specs.Kinds.{ofKind}
+use Rattle.types.specs.Mounts.{cleared}
+use Rattle.table.specs.Rows.{rowsLent, setRow}
+use Rattle.zones.specs.declared.Zone.{Zone}
+use Rattle.recovery.specs.Success.{rowAfter}
+use Rattle.recovery.specs.Fits.{recordFits}
+use Rattle.recovery.specs.Recovery.{nothingLost, recoveredRow}
+use Rattle.held.specs.Facts.{Ready}
+use Rattle.held.proofs.Laws.{ready-lent}
+use Rattle.completion.specs.declared.Effect.{Effect}
+use Rattle.completion.specs.declared.Store.the-variants as store
+use Rattle.completion.specs.Completions.{good, failed, stored, succeeded, markedBy, failing, recovering, recovered, effectOf}
+use Rattle.completion.proofs.Laws.{effect-ready}
+use Rattle.consistency.proofs.Bridge.{Became, set-became, still-became}
+use Rattle.consistency.proofs.Failures.{failedRow}
+
+abbrev pub holdOf : FileKind → ℕ → Command → Held
+holdOf k n c = record { kind = k; number = n; command = c }
+
+-- an effect that leaves row n of a table as `new`, and the other table as it was
+pub record Completed (m : Mount) (c s : List ℕ) (k : FileKind) (n : ℕ) (new : Row) (a : Answer) (d : Effect) : Type 0 where
+  pub answer : d .outcome .answer ≡ a
+  pub idle : d .outcome .mount .outstanding ≡ Idle
+  pub here : Became (ofKind k c s) n new (stored k (d .store) (ofKind k c s))
+  pub other : (j : FileKind) (t : List ℕ) → (k ≡ j → ⊥) → stored j (d .store) t ≡ t
+
+-- a store changes the table of its kind, and no other
+pub stored-either : (P : List ℕ → Type 0) (k : FileKind) (n : ℕ) (r : Row) (j : FileKind) (t : List ℕ) → (k ≡ j → P (setRow t n r)) → P t → P (stored j (store.Put k n r) t)
+stored-either P Conventional n r Conventional t here there = here refl
+stored-either P Conventional n r Sequential t here there = there
+stored-either P Sequential n r Conventional t here there = there
+stored-either P Sequential n r Sequential t here there = here refl
+
+stored-here : (k : FileKind) (n : ℕ) (r : Row) (t : List ℕ) → n < rowsLent (length t) → Became t n r (stored k (store.Put k n r) t)
+stored-here Conventional n r t h = set-became t n r h
+stored-here Sequential n r t h = set-became t n r h
+
+stored-other : (k : FileKind) (n : ℕ) (r : Row) (j : FileKind) (t : List ℕ) → (k ≡ j → ⊥) → stored j (store.Put k n r) t ≡ t
+stored-other k n r j t d = stored-either (λ u. u ≡ t) k n r j t (λ e. absurd (d e)) refl
+
+-- a recovery leaves nothing outstanding
+marked-idle : (p : ErrorPolicy) (m : Mount) → markedBy p (cleared m) .outstanding ≡ Idle
+marked-idle RemountRo m = refl
+marked-idle ZoneRo m = refl
+marked-idle ZoneOffline m = refl
+marked-idle Repair m = refl
+
+module _ (m : Mount) (c s : List ℕ) (k : FileKind) (n : ℕ) (d : Command) (r : Row) (w : Ready m c s (holdOf k n d) r) where
+  lent : n < rowsLent (length (ofKind k c s))
+  lent = ready-lent m c s (holdOf k n d) r w
+
+  succeeded-so : Completed m c s k n (rowAfter k d r) (Done (d .length)) (succeeded m (holdOf k n d) r)
+  unfolding succeeded
+  succeeded-so = record { answer = refl; idle = refl; here = stored-here k n (rowAfter k d r) (ofKind k c s) lent; other = stored-other k n (rowAfter k d r) }
+
+  recovered-so : (z : Zone) → let new = failedRow k (m .volume .policy) d z r in Completed m c s k n new (Refused (refusal.Failed (new .size))) (recovered m (holdOf k n d) r z)
+  unfolding recovered
+  recovered-so z = by (nothingLost k (d .kind) z (r .size))
+    where
+      by : (x : Bool) → Completed m c s k n (cond x r (recoveredRow (m .volume .policy) k z r)) (Refused (refusal.Failed (cond x r (recoveredRow (m .volume .policy) k z r) .size)))
+          (cond x (failing (cleared m) r store.Nothing) (recovering m (holdOf k n d) (recoveredRow (m .volume .policy) k z r)))
+      by true = record { answer = refl; idle = refl; here = still-became (ofKind k c s) n r (w .reached .row); other = λ j t e. refl }
+      by false = record {
+        answer = refl;
+        idle = marked-idle (m .volume .policy) m;
+        here = stored-here k n (recoveredRow (m .volume .policy) k z r) (ofKind k c s) lent;
+        other = stored-other k n (recoveredRow (m .volume .policy) k z r);
+      }
+
+  pub good-completed : Completed m c s k n (rowAfter k d r) (Done (d .length)) (effectOf m c s good)
+  good-completed = rw (effect-ready m c s (holdOf k n d) r good w) succeeded-so
+
+  pub failed-completed : (z : Zone) → recordFits (m .volume .block) k r z ≡ true
+      → let new = failedRow k (m .volume .policy) d z r in Completed m c s k n new (Refused (refusal.Failed (new .size))) (effectOf m c s (failed z))
+  failed-completed z f = rw (effect-ready m c s (holdOf k n d) r (failed z) w, f) (recovered-so z)

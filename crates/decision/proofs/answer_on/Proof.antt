@@ -1,0 +1,56 @@
+use borrow.Author.Needs.{needs}
+use Rattle.decision.proofs.answer_on.Statement.{statement}
+use Rattle.decision.proofs.answer_on.Tie as tie
+
+enum-known-x : tie.Need-enum-known-x
+enum-known-x c = search needs
+
+read-row-requires : tie.Need-read-row-requires
+read-row-requires c κs = search needs
+
+enum-known-x-2 : tie.Need-enum-known-x-2
+enum-known-x-2 c = search needs
+
+write-row-requires : tie.Need-write-row-requires
+write-row-requires c κs = search needs
+
+enum-known-x-3 : tie.Need-enum-known-x-3
+enum-known-x-3 c = search needs
+
+truncate-row-requires : tie.Need-truncate-row-requires
+truncate-row-requires c κs = search needs
+
+enum-told : tie.Need-enum-told
+enum-told c = search needs
+
+flush-row-requires : tie.Need-flush-row-requires
+flush-row-requires c κs = search needs
+
+returns : tie.Need-returns
+returns c = simp (c .before .before .x .given .1, c .read-row .ensures)
+
+returns-2 : tie.Need-returns-2
+returns-2 c = simp (c .before .before .x2 .given .1, c .write-row .ensures)
+
+returns-3 : tie.Need-returns-3
+returns-3 c = simp (c .before .before .x3 .given .1, c .truncate-row .ensures)
+
+returns-4 : tie.Need-returns-4
+returns-4 c = simp (c .before .enum-told .given .1, c .flush-row .ensures)
+
+pub answer-on-spec : {M : Type 1} → statement M
+answer-on-spec =
+    tie.close
+    (tie.spec
+    enum-known-x
+    read-row-requires
+    enum-known-x-2
+    write-row-requires
+    enum-known-x-3
+    truncate-row-requires
+    enum-told
+    flush-row-requires
+    returns
+    returns-2
+    returns-3
+    returns-4)

@@ -1,0 +1,13 @@
+use Rattle.held.proofs.Laws.{pending-tells}
+use borrow.Author.Needs.{needs}
+use Rattle.held.proofs.find_pending.Statement.{statement}
+use Rattle.held.proofs.find_pending.Tie as tie
+
+check-pending-requires : tie.Need-check-pending-requires
+check-pending-requires c κs = search needs
+
+returns : tie.Need-returns
+returns c = (c .check-pending .ensures, simp (c .check-pending .ensures) (pending-tells (c .before .before .before .args .m) (c .before .before .before .args .cnv .now) (c .before .before .before .args .seq .now)))
+
+pub find-pending-spec : {M : Type 1} → statement M
+find-pending-spec = tie.close (tie.spec check-pending-requires returns)

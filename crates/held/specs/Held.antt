@@ -1,0 +1,73 @@
+-- The held command of a completion: 8, and 10 for the mount, the row and the command itself.
+use Prim.Native.Nat.{ℕ, _-_}
+use mathlib.Core.List.{List}
+use mathlib.Core.Bool.{Bool, false, cond, _&&_}
+use lib.Dec.{eqb}
+use Rattle.types.specs.declared.Mount.{Mount}
+use Rattle.types.specs.declared.Row.{Row}
+use Rattle.types.specs.declared.Held.{Held}
+use Rattle.types.specs.declared.FileKind.{FileKind}
+use Rattle.types.specs.declared.Refusal.the-variants as refusal
+use Rattle.types.specs.declared.CommandKind.{CommandKind}
+use Rattle.types.specs.declared.CommandKind.the-variants as kind
+use Rattle.types.specs.declared.Command.{Command}
+use Rattle.types.specs.declared.Call.{Call}
+use Rattle.types.specs.declared.Answer.{Answer}
+use Rattle.types.specs.declared.Answer.the-variants as answer
+use Rattle.types.specs.declared.Outstanding.{Outstanding}
+use Rattle.types.specs.declared.Outstanding.the-variants.{Idle, Busy}
+use Rattle.types.specs.Blocks.{bytesOf}
+use Rattle.types.specs.Codes.{commandCode}
+use Rattle.checks.specs.declared.Checked.{Checked}
+use Rattle.checks.specs.declared.Checked.the-variants as checked
+use Rattle.checks.specs.Checks.{fileOf}
+use Rattle.decision.specs.Decision.{dispatched}
+use Rattle.held.specs.declared.Pending.{Pending}
+use Rattle.held.specs.declared.Pending.the-variants.{On, Refused}
+
+-- ---- "a held command that no call on its file, with row and mount as they are but nothing held, would issue"
+
+abbrev pub sameCommand : Command → Command → Bool
+sameCommand a b =
+    eqb (commandCode (a .kind)) (commandCode (b .kind)) && eqb (a .address) (b .address) && eqb (a .length) (b .length)
+
+-- the answer is this command
+abbrev pub issues : Answer → Command → Bool
+issues (answer.Issue a) c = sameCommand a c
+issues (answer.Done count) c = false
+issues (answer.Refused x) c = false
+
+-- the one call that can issue a command of this kind, at this offset and with this length
+abbrev pub callFor : Row → CommandKind → ℕ → ℕ → Call
+callFor r kind.Read offset length = Call.Read offset length
+callFor r kind.Write offset length = Call.Write offset length
+callFor r kind.Reset offset length = Call.Truncate 0
+callFor r kind.Finish offset length = Call.Truncate (r .capacity)
+callFor r kind.Flush offset length = Call.Flush
+
+-- the call that would have issued the command
+abbrev pub reissue : Row → Command → Call
+reissue r c = callFor r (c .kind) (c .address - bytesOf (r .start)) (c .length)
+
+-- some call on this row would issue the command, with the mount's read-only mark and block: the one that would have, made again
+unfoldable pub issuable : Bool → ℕ → FileKind → Row → Command → Bool
+issuable readonly block k r c = issues (dispatched readonly block k r (reissue r c)) c
+
+abbrev pub issuableOn : Mount → Held → Row → Bool
+issuableOn m h r = issuable (m .readonly) (m .volume .block) (h .kind) r (h .command)
+
+-- ---- "Checks: 8, 10"
+
+-- 10, for the counts, for a file that isn't there, for its row, and for a command that no call on it would issue
+abbrev pub heldOn : Mount → Held → Checked → Pending
+heldOn m h (checked.Good r) = cond (issuableOn m h r) (On h r) (Refused refusal.Impossible)
+heldOn m h (checked.Refused x) = Refused refusal.Impossible
+
+-- 8, "completion with nothing outstanding"
+abbrev pub pendingBy : Mount → List ℕ → List ℕ → Outstanding → Pending
+pendingBy m cnv seq Idle = Refused refusal.NothingOutstanding
+pendingBy m cnv seq (Busy h) = heldOn m h (fileOf (m .volume) cnv seq (h .kind) (h .number))
+
+-- the held command with its row, or the refusal
+unfoldable pub pendingOf : Mount → List ℕ → List ℕ → Pending
+pendingOf m cnv seq = pendingBy m cnv seq (m .outstanding)

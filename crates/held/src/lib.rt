@@ -1,0 +1,135 @@
+// The held command of a completion: 8 and 10, which asks whether some call on its file would issue it.
+ghost use mathlib.Core.Path.{_≡_};
+ghost use mathlib.Core.Bool.{true};
+ghost use Prim.Native.Nat.{_+_, _-_, _/_, _≤_, _^_};
+ghost use Rattle.types.specs.Blocks.{sectorBytes, goodBlock, bytesOf};
+ghost use Rattle.checks.specs.Facts.{Ends};
+ghost use Rattle.decision.specs.Decision.{answerOn};
+ghost use Rattle.held.specs.Held.{sameCommand, issues, callFor, issuable, heldOn, pendingOf};
+ghost use Rattle.held.specs.Facts.{PendingTells};
+use checks::Checked;
+use checks::Lookup;
+use types::Answer;
+use types::Command;
+use types::CommandKind;
+use types::FileKind;
+use types::Held;
+use types::Mount;
+use types::Outstanding;
+use types::Refusal;
+use types::Row;
+
+// What a completion is about: the held command with its row, or the refusal.
+pub enum Pending {
+    On(Held, Row),
+    Refused(Refusal),
+}
+
+fn same_command(a: Command, b: Command) -> bool
+    ensures { λ r. ⌜ r ≡ sameCommand a b ⌝ }
+{
+    let this = a.kind;
+    let that = b.kind;
+    (types::codes::command_code(this) == types::codes::command_code(that))
+        & (a.address == b.address)
+        & (a.length == b.length)
+}
+
+fn issues_it(a: Answer, c: Command) -> bool
+    ensures { λ r. ⌜ r ≡ issues a c ⌝ }
+{
+    match a {
+        Answer::Issue(issued) => same_command(issued, c),
+        Answer::Done(_) => false,
+        Answer::Refused(_) => false,
+    }
+}
+
+// How far an address lies past the start of its file, 0 where it doesn't.
+fn offset_from(start: u64, address: u64) -> u64
+    requires { ⌜ start ≤ 2 ^ 40 ⌝ }
+    ensures { λ r. ⌜ r ≡ address - bytesOf start ⌝ }
+{
+    let first = types::units::bytes_of(start);
+    if first <= address { address - first } else { 0 }
+}
+
+// What the call that would have issued a command of this kind answers on its row, made again. By the command's kind, and not by way of
+// `decision::dispatch`: a larger function with two callers would be a call of its own, which copies the row.
+fn answer_again(
+    block: u64,
+    kind: FileKind,
+    row: Row,
+    command: CommandKind,
+    offset: u64,
+    length: u64,
+) -> Answer
+    requires { ⌜ (goodBlock block ≡ true) × (row .start + row .capacity / sectorBytes ≤ 2 ^ 40) ⌝ }
+    ensures { λ r. ⌜ r ≡ answerOn block kind row (callFor row command offset length) ⌝ }
+{
+    match command {
+        CommandKind::Read => decision::read_row(row, offset, length),
+        CommandKind::Write => decision::write_row(block, kind, row, offset, length),
+        CommandKind::Reset => decision::truncate_row(kind, row, 0),
+        CommandKind::Finish => decision::truncate_row(kind, row, row.capacity),
+        CommandKind::Flush => decision::flush_row(row),
+    }
+}
+
+// Whether some call on this row would issue the command: the one that would have is made again. On a read-only mount only a read is.
+fn is_issuable(readonly: bool, block: u64, kind: FileKind, row: Row, c: Command) -> bool
+    requires { ⌜ (goodBlock block ≡ true) × (row .start + row .capacity / sectorBytes ≤ 2 ^ 40) ⌝ }
+    ensures { λ r. ⌜ r ≡ issuable readonly block kind row c ⌝ }
+{
+    let command = c.kind;
+    let offset = offset_from(row.start, c.address);
+    let barred = readonly & !types::commands::is_read(command);
+    let again = answer_again(block, kind, row, command, offset, c.length);
+    !barred & issues_it(again, c)
+}
+
+fn held_on(m: Mount, h: Held, file: Checked) -> Pending
+    requires { ⌜ (goodBlock (m .volume .block) ≡ true) × Ends file ⌝ }
+    ensures { λ r. ⌜ r ≡ heldOn m h file ⌝ }
+{
+    let kind = h.kind;
+    let command = h.command;
+    let v = m.volume;
+    match file {
+        Checked::Good(row) => {
+            if is_issuable(m.readonly, v.block, kind, row, command) {
+                Pending::On(h, row)
+            } else {
+                Pending::Refused(Refusal::Impossible)
+            }
+        }
+        Checked::Refused(_) => Pending::Refused(Refusal::Impossible),
+    }
+}
+
+// Checks 8 and 10. One row is read.
+fn check_pending(m: Mount, cnv: &[u64], seq: &[u64]) -> Pending
+    ensures { λ r. ⌜ r ≡ pendingOf m (now (cnv .entry)) (now (seq .entry)) ⌝ }
+{
+    let outstanding = m.outstanding;
+    let Outstanding::Busy(h) = outstanding else {
+        return Pending::Refused(Refusal::NothingOutstanding);
+    };
+    let v = m.volume;
+    if !checks::counts_fit(v, cnv.len(), seq.len()) {
+        return Pending::Refused(Refusal::Impossible);
+    }
+    let kind = h.kind;
+    let Lookup::Found(slot) = checks::lookup_of(v, cnv, seq, kind, h.number) else {
+        return Pending::Refused(Refusal::Impossible);
+    };
+    held_on(m, h, checks::sound_slot(v.block, kind, slot))
+}
+
+// What the checks tell goes with their answer.
+pub fn find_pending(m: Mount, cnv: &[u64], seq: &[u64]) -> Pending
+    ensures { λ r. ⌜ r ≡ pendingOf m (now (cnv .entry)) (now (seq .entry)) ⌝ }
+    ensures { λ r. ⌜ PendingTells m (now (cnv .entry)) (now (seq .entry)) r ⌝ }
+{
+    check_pending(m, cnv, seq)
+}

@@ -1,0 +1,51 @@
+use Rattle.tape.specs.Facts.{stateOf}
+use Rattle.tape.proofs.Turns.{ended}
+use borrow.Author.Needs.{needs}
+use Rattle.tape.proofs.end_turn.Statement.{statement}
+use Rattle.tape.proofs.end_turn.Tie as tie
+
+end-bytes-requires : tie.Need-end-bytes-requires
+end-bytes-requires c κs = tt
+
+add-next : tie.Need-add-next
+add-next c = search needs
+
+end-record-requires : tie.Need-end-record-requires
+end-record-requires c κs = search needs
+
+end-mark-requires : tie.Need-end-mark-requires
+end-mark-requires c κs = tt
+
+end-command-requires : tie.Need-end-command-requires
+end-command-requires c κs = tt
+
+put-completion-line-requires : tie.Need-put-completion-line-requires
+put-completion-line-requires c κs = search needs
+
+same-length : tie.Need-same-length
+same-length c = search needs
+
+same-length-2 : tie.Need-same-length-2
+same-length-2 c = search needs
+
+same-length-3 : tie.Need-same-length-3
+same-length-3 c = search needs
+
+returns : tie.Need-returns
+returns c = let a = c .before .before .before .before .before .before .before .before .before .before .before .before .before .before .before .before .before .before .before .args in
+    ended (a .b .now) (a .at) (c .before .before .before .before .before .before .before .before .before .before .before .before .before .before .end-bytes .result) (c .before .before .before .before .before .before .before .before .before .before .before .before .before .end-record .result .now) (stateOf (a .m) (a .cnv .now) (a .seq .now)) (a .done) (c .before .before .before .before .before .before .before .before .before .before .before .before .before .before .end-bytes .ensures .0) (c .before .before .before .before .before .before .before .before .before .before .before .before .before .end-record .ensures) (c .before .before .before .before .before .before .before .before .before .before .before .before .end-mark .ensures) (c .before .before .put-completion-line .ensures) (c .before .before .before .before .before .before .before .before .before .end-command .ensures)
+
+pub end-turn-spec : {M : Type 1} → statement M
+end-turn-spec =
+    tie.close
+    (tie.spec
+    end-bytes-requires
+    add-next
+    end-record-requires
+    end-mark-requires
+    end-command-requires
+    put-completion-line-requires
+    same-length
+    same-length-2
+    same-length-3
+    returns)
