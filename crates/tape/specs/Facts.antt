@@ -1,40 +1,32 @@
 -- What functions tell those that call them. No outcome is defined here.
-use Prim.Native.Nat.{ℕ, _+_, _≤_}
+use Prim.Native.Nat.{ℕ, _≤_}
 use mathlib.Core.List.{List}
 use mathlib.Core.Path.{_≡_}
-use lib.ListN.{take}
-use Rattle.types.specs.declared.Mount.{Mount}
-use Rattle.types.specs.declared.MountOutcome.{MountOutcome}
-use Rattle.mount.specs.Mount.{Mounting}
-use Rattle.tape_lines.specs.Facts.{lineRoom}
-use Rattle.tape.specs.declared.Turned.{Turned}
+use lib.ListN.{length, take}
+use lib.Seq.{sets}
 use Rattle.text.specs.Facts.{Put}
-use Rattle.tape.specs.Tape.{State, Rest, Turn}
+use Rattle.tape_turns.specs.declared.Turned.{Turned}
+use Rattle.tape_turns.specs.Turns.{Turn}
+use Rattle.tape_turns.specs.Facts.{restOf}
+use Rattle.tape.specs.declared.Kept.{Kept}
+use Rattle.tape.specs.Blocks.{Part}
 
--- a mount value and both tables, as a state
-abbrev pub stateOf : Mount → List ℕ → List ℕ → State
-stateOf m cnv seq = record { mount = m; cnv = cnv; seq = seq }
-
--- what a function handed back, with both tables as it left them
-abbrev pub restOf : Turned → List ℕ → List ℕ → Rest
-restOf r cnv seq = record { more = r .more; next = r .next; state = stateOf (r .mount) cnv seq }
-
--- a function took a turn: it put its line at a place, and handed back the rest
-pub record Takes (t : Turn) (before after : List ℕ) (to : ℕ) (r : Turned) (cnv seq : List ℕ) : Type 0 where
-  pub line : Put before after to (r .to) (t .line)
+-- a function played records: it put their lines at a place, and handed back the rest
+pub record Plays (t : Turn) (before after : List ℕ) (to : ℕ) (r : Turned) (cnv seq : List ℕ) : Type 0 where
+  pub lines : Put before after to (r .to) (t .line)
   pub rest : restOf r cnv seq ≡ t .rest
-  pub room : r .to ≤ to + lineRoom
 
--- a function copied the line of a turn from the start of some bytes, and handed the rest of it on
-pub record Copies (t : Turned) (line before after : List ℕ) (to : ℕ) (r : Turned) : Type 0 where
-  pub copy : Put before after to (r .to) (take (t .to) line)
+-- a function copied lines from the start of some bytes, and handed the rest on
+pub record Copies (t : Turned) (lines before after : List ℕ) (to : ℕ) (r : Turned) : Type 0 where
+  pub copy : Put before after to (r .to) (take (t .to) lines)
   pub more : r .more ≡ t .more
   pub next : r .next ≡ t .next
   pub mount : r .mount ≡ t .mount
 
--- a function mounted: what it handed back, with both tables as it left them
-pub record Mounts (o : Mounting) (r : MountOutcome) (cnv seq : List ℕ) : Type 0 where
-  pub answer : r .answer ≡ o .answer
-  pub mount : r .mount ≡ o .mount
-  pub cnvs : cnv ≡ o .cnv
-  pub seqs : seq ≡ o .seq
+-- a function played a part of a tape: it put its lines at a place, moved what is held to the front of the buffer, and handed back the rest
+pub record Keeps (p : Part) (buffer left before after : List ℕ) (to : ℕ) (r : Kept) (cnv seq : List ℕ) : Type 0 where
+  pub lines : Put before after to (r .turned .to) (p .text)
+  pub front : left ≡ sets buffer 0 (p .held .bytes)
+  pub held : r .left ≡ length (p .held .bytes)
+  pub rest : restOf (r .turned) cnv seq ≡ p .held .rest
+  pub inside : to ≤ length before → r .turned .to ≤ length before

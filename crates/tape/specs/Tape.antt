@@ -1,100 +1,13 @@
--- What a tape prints: "One line per record from MO on".
-use Prim.Native.Nat.{ℕ, zero, suc, _+_, _*_}
+-- What a tape prints, as one text.
+use Prim.Native.Nat.{ℕ, zero, suc, _*_}
 use mathlib.Core.List.{List, [], _++_}
-use mathlib.Core.Bool.{Bool, true, false, cond, _&&_}
+use mathlib.Core.Bool.{Bool, cond, _&&_}
 use lib.ListN.{length, replicate}
 use lib.Dec.{leb, ltb}
-use Rattle.types.specs.declared.Mount.{Mount}
-use Rattle.types.specs.declared.FileKind.the-variants.{Conventional, Sequential}
-use Rattle.types.specs.declared.Call.{Call}
-use Rattle.types.specs.declared.MountAnswer.{MountAnswer}
-use Rattle.types.specs.declared.MountAnswer.the-variants.{Refused, Mounted}
-use Rattle.types.specs.declared.Outcome.{Outcome}
-use Rattle.types.specs.Mounts.{emptyMount}
 use Rattle.table.specs.Rows.{rowWidth}
-use Rattle.mount.specs.Mount.{Mounting, mountOutcome}
-use Rattle.calls.specs.Calls.{outcomeBy}
-use Rattle.completion.specs.declared.Effect.{Effect}
-use Rattle.completion.specs.Completions.{Completion, completionBy, stored, effectOf}
-use Rattle.tape_records.specs.declared.Record.{Record}
-use Rattle.tape_records.specs.declared.Record.the-variants.{OnFile, End, Broken}
+use Rattle.tape_records.specs.Records.{tapeFiles}
+use Rattle.tape_turns.specs.Turns.{Rest, turnAt, openTurn}
 use Rattle.tape.specs.declared.Played.{Played}
-use Rattle.tape_records.specs.declared.Mark.{Mark}
-use Rattle.tape_records.specs.Records.{callBytes, endMark, endBytes, endRecord, recordAt, tapeFiles, opens, blockOf, superBytes, reportBytes, optionBytes, runPlace}
-use Rattle.tape_lines.specs.Lines.{callLine, completionLine, mountLine, brokenLine}
-
--- what each record finds: the mount value, and the words of both tables
-pub record State : Type 0 where
-  pub mount : Mount
-  pub cnv : List ℕ
-  pub seq : List ℕ
-
--- what a record leaves: whether the tape goes on, the place of the next record, and what that finds
-pub record Rest : Type 0 where
-  pub more : Bool
-  pub next : ℕ
-  pub state : State
-
--- what a record does
-pub record Turn : Type 0 where
-  pub line : List ℕ
-  pub rest : Rest
-
-abbrev pub turn : List ℕ → Bool → ℕ → State → Turn
-turn line more next s = record { line = line; rest = record { more = more; next = next; state = s } }
-
--- "Unknown, misplaced or cut record: `?? 40`, stop."
-abbrev pub brokenTurn : ℕ → State → Turn
-brokenTurn at s = turn brokenLine false at s
-
--- ---- a record after `MO`
-
-abbrev pub callTurn : ℕ → State → Call → Outcome → Turn
-callTurn next s x o = turn (callLine x (o .answer)) true next (record { mount = o .mount; cnv = s .cnv; seq = s .seq })
-
-abbrev pub completionTurn : Mark → ℕ → State → Effect → Turn
-completionTurn m next s e =
-    turn (completionLine m (e .outcome .answer)) true next
-    (record {
-      mount = e .outcome .mount;
-      cnv = stored Conventional (e .store) (s .cnv);
-      seq = stored Sequential (e .store) (s .seq);
-    })
-
--- that the command was done, or "`NO` with 64 bytes (capacity always given)"
-abbrev pub completionAt : List ℕ → ℕ → Bool → Completion
-completionAt b at done = completionBy done true (endRecord done b at)
-
-abbrev pub endTurn : List ℕ → ℕ → State → Bool → Turn
-endTurn b at s done =
-    completionTurn (endMark done) (at + endBytes done) s (effectOf (s .mount) (s .cnv) (s .seq) (completionAt b at done))
-
-abbrev pub turnOf : List ℕ → ℕ → State → Record → Turn
-turnOf b at s (OnFile kind number x) = callTurn (at + callBytes) s x (outcomeBy (s .mount) (s .cnv) (s .seq) kind number x)
-turnOf b at s (End done) = endTurn b at s done
-turnOf b at s Broken = brokenTurn at s
-
-unfoldable pub turnAt : List ℕ → ℕ → State → Turn
-turnAt b at s = turnOf b at s (recordAt b at)
-
--- ---- the first four records, as one
-
--- "Refused mount: stop."
-abbrev pub goesOn : MountAnswer → Bool
-goesOn (Refused r) = false
-goesOn (Mounted cnvs seqs) = true
-
-abbrev pub mountTurn : ℕ → Mounting → Turn
-mountTurn next o = turn (mountLine (o .answer)) (goesOn (o .answer)) next (record { mount = o .mount; cnv = o .cnv; seq = o .seq })
-
-abbrev pub mounting : List ℕ → List ℕ → List ℕ → Mounting
-mounting b cnv seq = mountOutcome (blockOf b) (superBytes b) (optionBytes b) (reportBytes b) cnv seq
-
-unfoldable pub openTurn : List ℕ → List ℕ → List ℕ → Turn
-openTurn b cnv seq =
-    cond (opens b) (mountTurn (runPlace b) (mounting b cnv seq)) (brokenTurn 0 (record { mount = emptyMount; cnv = cnv; seq = seq }))
-
--- ---- a tape
 
 -- no record said "stop", and the tape goes on: after `MO` it may end between records, and nothing is printed for that
 abbrev pub goesFurther : List ℕ → Rest → Bool

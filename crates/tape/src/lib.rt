@@ -1,35 +1,32 @@
-// A tape: what each of its records does, and the lines that it prints.
+// A tape: a block of its records played into lent bytes, what is kept of a buffer for the next block, and a whole tape in memory.
 ghost use mathlib.Core.Path.{_≡_};
-ghost use mathlib.Core.List.{List};
-ghost use Prim.Native.Nat.{ℕ, _+_, _^_, _≤_, _<_};
-ghost use lib.ListN.{length};
+ghost use mathlib.Core.Bool.{true};
+ghost use Prim.Native.Nat.{_+_, _^_, _≤_, _<_};
+ghost use lib.ListN.{length, take, drop};
 ghost use lib.Seq.{sets};
-ghost use Rattle.calls.specs.Calls.{outcomeBy};
-ghost use Rattle.tape_records.specs.Records.{endBytes, runPlace};
-ghost use Rattle.tape_records.specs.Facts.{Opened};
-ghost use Rattle.tape.specs.Tape.{callTurn, endTurn, brokenTurn, mountTurn, turnAt, goesOn, mounting, openTurn, textFrom, textWith, tapeText, playedTo, playedInto};
-ghost use Rattle.tape_lines.specs.Facts.{lineRoom};
-ghost use Rattle.tape.specs.Facts.{stateOf, restOf, Takes, Copies, Mounts};
 ghost use Rattle.text.specs.Facts.{Fills};
+ghost use Rattle.tape_lines.specs.Facts.{lineRoom};
+ghost use Rattle.tape_turns.specs.Facts.{restOf};
+ghost use Rattle.tape.specs.Tape.{textFrom, textWith, tapeText, playedTo, playedInto};
+ghost use Rattle.tape.specs.Blocks.{isTold, hasRoom, isReady, blockOf, partOf};
+ghost use Rattle.tape.specs.Pieces.{pieceOf, firstPart, isOver};
+ghost use Rattle.tape.specs.Facts.{Plays, Copies, Keeps};
 use table::ROW_WORDS;
 use tape_lines::LINE_ROOM;
-use tape_records::CALL_BYTES;
-use tape_records::Record;
+use tape_records::FAILED_BYTES;
 use tape_records::TAPE_FILES;
-use types::Call;
-use types::Mount;
-use types::MountAnswer;
-use types::MountOutcome;
+use tape_turns::Turned;
 
 // The words of a table with room for as many files of a kind as a tape's report gives.
 pub const TABLE_WORDS: usize = ROW_WORDS * TAPE_FILES;
 
-// What a record left: the place after its line, whether the tape goes on, the place of the next record, and the mount.
-pub struct Turned {
-    pub to: usize,
-    pub more: bool,
-    pub next: usize,
-    pub mount: Mount,
+// No record after the first four is longer.
+const LONGEST_RECORD: usize = FAILED_BYTES;
+
+// What playing a part of a tape left: what its last record did, and how many bytes at the front of the buffer aren't played yet.
+pub struct Kept {
+    pub turned: Turned,
+    pub left: usize,
 }
 
 // What playing a tape into lent bytes answers: whether its text fits, and how many of the bytes are the text's.
@@ -38,168 +35,169 @@ pub struct Played {
     pub length: usize,
 }
 
-// The turn of a call. The next record stands at `next`.
-fn call_turn(
-    m: Mount,
-    cnv: &[u64],
-    seq: &[u64],
-    kind: u8,
-    number: u32,
-    x: Call,
-    next: usize,
-    out: &mut [u8],
-    to: usize,
-) -> Turned
-    requires { ⌜ to + lineRoom ≤ length (now out) ⌝ }
-    ensures { λ r. ⌜ Takes (callTurn next (stateOf m (now (cnv .entry)) (now (seq .entry))) x (outcomeBy m (now (cnv .entry)) (now (seq .entry)) kind number x)) (now (out .entry)) (now (out .exit)) to r (now (cnv .entry)) (now (seq .entry)) ⌝ }
+// The record at `next` stands whole among the bytes that are there, or they are the last.
+fn is_told(ended: bool, have: usize, next: usize) -> bool
+    ensures { λ r. ⌜ r ≡ isTold ended have next ⌝ }
 {
-    let o = calls::call_by(m, cnv, seq, kind as u64, number, x);
-    let answer = o.answer;
-    let mount = o.mount;
-    let end = tape_lines::put_call_line(out, to, x, answer);
-    Turned {
-        to: end,
-        more: true,
-        next,
-        mount,
-    }
-}
-
-// The turn of a record that is unknown, misplaced or cut: the tape stops at it.
-fn broken_turn(at: usize, m: Mount, out: &mut [u8], to: usize) -> Turned
-    requires { ⌜ to + lineRoom ≤ length (now out) ⌝ }
-    ensures { λ r. ⌜ ((cnv seq : List ℕ) → Takes (brokenTurn at (stateOf m cnv seq)) (now (out .entry)) (now (out .exit)) to r cnv seq) ⌝ }
-{
-    let end = tape_lines::put_broken_line(out, to);
-    Turned {
-        to: end,
-        more: false,
-        next: at,
-        mount: m,
-    }
-}
-
-// The turn of the end of a command, that it was done or that it failed.
-fn end_turn(
-    b: &[u8],
-    at: usize,
-    done: bool,
-    m: Mount,
-    cnv: &mut [u64],
-    seq: &mut [u64],
-    out: &mut [u8],
-    to: usize,
-) -> Turned
-    requires { ⌜ (at + endBytes done ≤ length (now b)) × (to + lineRoom ≤ length (now out)) ⌝ }
-    ensures { λ r. ⌜ Takes (endTurn (now (b .entry)) at (stateOf m (now (cnv .entry)) (now (seq .entry))) done) (now (out .entry)) (now (out .exit)) to r (now (cnv .exit)) (now (seq .exit)) ⌝ }
-{
-    let next = at + tape_records::end_bytes(done);
-    let record = tape_records::end_record(b, at, done);
-    let mark = tape_records::end_mark(done);
-    let o = completion::end_command(m, cnv, seq, done, record, true);
-    let answer = o.answer;
-    let mount = o.mount;
-    let end = tape_lines::put_completion_line(out, to, mark, answer);
-    Turned {
-        to: end,
-        more: true,
-        next,
-        mount,
-    }
-}
-
-// Plays the record at `at`: puts its line at `to`, and hands back what it left.
-pub fn take_turn(
-    b: &[u8],
-    at: usize,
-    m: Mount,
-    cnv: &mut [u64],
-    seq: &mut [u64],
-    out: &mut [u8],
-    to: usize,
-) -> Turned
-    requires { ⌜ to + lineRoom ≤ length (now out) ⌝ }
-    ensures { λ r. ⌜ Takes (turnAt (now (b .entry)) at (stateOf m (now (cnv .entry)) (now (seq .entry)))) (now (out .entry)) (now (out .exit)) to r (now (cnv .exit)) (now (seq .exit)) ⌝ }
-{
-    let found = tape_records::record_at(b, at);
-    match found {
-        Record::OnFile(kind, number, x) => {
-            call_turn(
-                m,
-                &cnv[..],
-                &seq[..],
-                kind,
-                number,
-                x,
-                at + CALL_BYTES,
-                out,
-                to,
-            )
-        }
-        Record::End(done) => end_turn(b, at, done, m, cnv, seq, out, to),
-        Record::Broken => broken_turn(at, m, out, to),
-    }
-}
-
-fn goes_on(a: MountAnswer) -> bool
-    ensures { λ r. ⌜ r ≡ goesOn a ⌝ }
-{
-    match a {
-        MountAnswer::Refused(_) => false,
-        MountAnswer::Mounted(_, _) => true,
-    }
-}
-
-// Mounts from the first four records.
-fn mount_from(b: &[u8], cnv: &mut [u64], seq: &mut [u64]) -> MountOutcome
-    requires { ⌜ Opened (now b) ⌝ }
-    ensures { λ r. ⌜ Mounts (mounting (now (b .entry)) (now (cnv .entry)) (now (seq .entry))) r (now (cnv .exit)) (now (seq .exit)) ⌝ }
-{
-    let block = tape_records::block_of(b);
-    let super_block = tape_records::super_bytes(b);
-    let options = tape_records::option_bytes(b);
-    let report = tape_records::report_bytes(b);
-    mount::mount(block as u64, super_block, options, report, cnv, seq)
-}
-
-// The turn of the first four records, where they stand.
-fn mount_turn(b: &[u8], cnv: &mut [u64], seq: &mut [u64], out: &mut [u8], to: usize) -> Turned
-    requires { ⌜ Opened (now b) × (to + lineRoom ≤ length (now out)) ⌝ }
-    ensures { λ r. ⌜ Takes (mountTurn (runPlace (now (b .entry))) (mounting (now (b .entry)) (now (cnv .entry)) (now (seq .entry)))) (now (out .entry)) (now (out .exit)) to r (now (cnv .exit)) (now (seq .exit)) ⌝ }
-{
-    let next = tape_records::run_place(b);
-    let o = mount_from(b, cnv, seq);
-    let answer = o.answer;
-    let mount = o.mount;
-    let more = goes_on(answer);
-    let end = tape_lines::put_mount_line(out, to, answer);
-    Turned {
-        to: end,
-        more,
-        next,
-        mount,
-    }
-}
-
-// Plays the first four records.
-pub fn open_tape(b: &[u8], cnv: &mut [u64], seq: &mut [u64], out: &mut [u8], to: usize) -> Turned
-    requires { ⌜ to + lineRoom ≤ length (now out) ⌝ }
-    ensures { λ r. ⌜ Takes (openTurn (now (b .entry)) (now (cnv .entry)) (now (seq .entry))) (now (out .entry)) (now (out .exit)) to r (now (cnv .exit)) (now (seq .exit)) ⌝ }
-{
-    if tape_records::opens(b) {
-        mount_turn(b, cnv, seq, out, to)
+    if have < LONGEST_RECORD {
+        ended
     } else {
-        broken_turn(0, types::mounts::empty_mount(), out, to)
+        ended | (next <= have - LONGEST_RECORD)
     }
 }
 
-// The turn whose line stands at the start of `line`, with as much of it at `to` as there is room for.
-fn copy_turn(t: Turned, line: &[u8], out: &mut [u8], to: usize) -> Turned
-    requires { ⌜ (t .to ≤ length (now line)) × (to + t .to < 2 ^ 64) ⌝ }
-    ensures { λ r. ⌜ Copies t (now (line .entry)) (now (out .entry)) (now (out .exit)) to r ⌝ }
+// There is room for a line at `to`.
+fn has_room(to: usize, room: usize) -> bool
+    ensures { λ r. ⌜ r ≡ hasRoom to room ⌝ }
+{
+    if room < LINE_ROOM {
+        false
+    } else {
+        to <= room - LINE_ROOM
+    }
+}
+
+// The next record can be played.
+fn is_ready(more: bool, next: usize, ended: bool, have: usize, to: usize, room: usize) -> bool
+    ensures { λ r. ⌜ r ≡ isReady more next ended have to room ⌝ }
+{
+    more & (next < have) & (is_told(ended, have, next) & has_room(to, room))
+}
+
+// Plays the records that are ready: puts their lines at `t.to`, and hands back what the last of them left.
+pub fn play_block(
+    b: &[u8],
+    ended: bool,
+    t: Turned,
+    cnv: &mut [u64],
+    seq: &mut [u64],
+    out: &mut [u8],
+) -> Turned
+    ensures { λ r. ⌜ Plays (blockOf ended (now (b .entry)) (t .to) (length (now (out .entry))) (restOf t (now (cnv .entry)) (now (seq .entry)))) (now (out .entry)) (now (out .exit)) (t .to) r (now (cnv .exit)) (now (seq .exit)) ⌝ }
+    ensures { λ r. ⌜ (t .to ≤ length (now (out .entry)) → r .to ≤ length (now (out .entry))) ⌝ }
+{
+    let mut t = t;
+    while is_ready(t.more, t.next, ended, b.len(), t.to, out.len()) {
+        t = tape_turns::take_turn(b, t.next, t.mount, cnv, seq, out, t.to);
+    }
+    t
+}
+
+// Moves the `n` bytes from `from` on to the front.
+fn move_down(b: &mut [u8], from: usize, n: usize)
+    requires { ⌜ from + n ≤ length (now b) ⌝ }
+    ensures { λ _. ⌜ now (b .exit) ≡ sets (now (b .entry)) 0 (take n (drop from (now (b .entry)))) ⌝ }
+{
+    for i in 0..n {
+        b[i] = b[from + i];
+    }
+}
+
+// Moves what stands from `from` on among the first `have` bytes to the front. Answers how many bytes that are.
+fn keep_rest(b: &mut [u8], from: usize, have: usize) -> usize
+    requires { ⌜ have ≤ length (now b) ⌝ }
+    ensures { λ r. ⌜ r ≡ length (drop from (take have (now (b .entry)))) ⌝ }
+    ensures { λ _. ⌜ now (b .exit) ≡ sets (now (b .entry)) 0 (drop from (take have (now (b .entry)))) ⌝ }
+{
+    if have <= from {
+        return 0;
+    }
+    move_down(b, from, have - from);
+    have - from
+}
+
+// The rest of a tape whose next record is at the front.
+fn at_front(t: Turned) -> Turned
+    ensures { λ r. ⌜ r ≡ record { to = t .to; more = t .more; next = 0; mount = t .mount } ⌝ }
 {
     let mount = t.mount;
-    let end = tape_lines::copy_line(out, to, line, t.to);
+    Turned {
+        to: t.to,
+        more: t.more,
+        next: 0,
+        mount,
+    }
+}
+
+// The rest of a tape whose lines so far are written.
+fn from_start(t: Turned) -> Turned
+    ensures { λ r. ⌜ r ≡ record { to = 0; more = t .more; next = t .next; mount = t .mount } ⌝ }
+{
+    let mount = t.mount;
+    Turned {
+        to: 0,
+        more: t.more,
+        next: t.next,
+        mount,
+    }
+}
+
+// Plays the records that are ready among the first `have` bytes, and moves what is left to the front.
+fn play_part(
+    b: &mut [u8],
+    have: usize,
+    ended: bool,
+    t: Turned,
+    cnv: &mut [u64],
+    seq: &mut [u64],
+    out: &mut [u8],
+) -> Kept
+    requires { ⌜ have ≤ length (now b) ⌝ }
+    ensures { λ r. ⌜ Keeps (partOf ended (take have (now (b .entry))) (t .to) (length (now (out .entry))) (restOf t (now (cnv .entry)) (now (seq .entry)))) (now (b .entry)) (now (b .exit)) (now (out .entry)) (now (out .exit)) (t .to) r (now (cnv .exit)) (now (seq .exit)) ⌝ }
+{
+    let played = play_block(&b[..have], ended, t, cnv, seq, out);
+    let next = played.next;
+    let left = keep_rest(b, next, have);
+    let turned = at_front(played);
+    Kept { turned, left }
+}
+
+// Opens a tape by the first `have` bytes, and plays on among them.
+pub fn first_part(
+    b: &mut [u8],
+    have: usize,
+    ended: bool,
+    cnv: &mut [u64],
+    seq: &mut [u64],
+    out: &mut [u8],
+) -> Kept
+    requires { ⌜ (have ≤ length (now b)) × (lineRoom ≤ length (now out)) ⌝ }
+    ensures { λ r. ⌜ Keeps (firstPart (length (now (out .entry))) (pieceOf (take have (now (b .entry))) ended) (now (cnv .entry)) (now (seq .entry))) (now (b .entry)) (now (b .exit)) (now (out .entry)) (now (out .exit)) 0 r (now (cnv .exit)) (now (seq .exit)) ⌝ }
+{
+    let opened = tape_turns::open_tape(&b[..have], cnv, seq, out, 0);
+    play_part(b, have, ended, opened, cnv, seq, out)
+}
+
+// Plays on among the first `have` bytes, with all lines so far written.
+pub fn next_part(
+    b: &mut [u8],
+    have: usize,
+    ended: bool,
+    t: Turned,
+    cnv: &mut [u64],
+    seq: &mut [u64],
+    out: &mut [u8],
+) -> Kept
+    requires { ⌜ have ≤ length (now b) ⌝ }
+    ensures { λ r. ⌜ Keeps (partOf ended (take have (now (b .entry))) 0 (length (now (out .entry))) (restOf t (now (cnv .entry)) (now (seq .entry)))) (now (b .entry)) (now (b .exit)) (now (out .entry)) (now (out .exit)) 0 r (now (cnv .exit)) (now (seq .exit)) ⌝ }
+{
+    play_part(b, have, ended, from_start(t), cnv, seq, out)
+}
+
+// The player stops: the tape did, or its last byte is played.
+pub fn is_over(more: bool, ended: bool, left: usize) -> bool
+    ensures { λ r. ⌜ r ≡ isOver more ended left ⌝ }
+{
+    !more | (ended & (left == 0))
+}
+
+// The lines at the start of `lines`, with as much of them at `to` as there is room for.
+fn copy_lines(t: Turned, lines: &[u8], out: &mut [u8], to: usize) -> Turned
+    requires { ⌜ (t .to ≤ length (now lines)) × (to + t .to < 2 ^ 64) ⌝ }
+    ensures { λ r. ⌜ Copies t (now (lines .entry)) (now (out .entry)) (now (out .exit)) to r ⌝ }
+{
+    let mount = t.mount;
+    let end = tape_lines::copy_line(out, to, lines, t.to);
     Turned {
         to: end,
         more: t.more,
@@ -208,22 +206,15 @@ fn copy_turn(t: Turned, line: &[u8], out: &mut [u8], to: usize) -> Turned
     }
 }
 
-// As `take_turn`, with as much of the line as there is room for.
-fn turn_into(
-    b: &[u8],
-    at: usize,
-    m: Mount,
-    cnv: &mut [u64],
-    seq: &mut [u64],
-    out: &mut [u8],
-    to: usize,
-) -> Turned
-    requires { ⌜ to ≤ length (now out) ⌝ }
-    ensures { λ r. ⌜ Takes (turnAt (now (b .entry)) at (stateOf m (now (cnv .entry)) (now (seq .entry)))) (now (out .entry)) (now (out .exit)) to r (now (cnv .exit)) (now (seq .exit)) ⌝ }
+// A block of all records that there is room for in one line, with as much of its text at `t.to` as there is room for.
+fn block_into(b: &[u8], t: Turned, cnv: &mut [u64], seq: &mut [u64], out: &mut [u8]) -> Turned
+    requires { ⌜ t .to ≤ length (now out) ⌝ }
+    ensures { λ r. ⌜ Plays (blockOf true (now (b .entry)) 0 lineRoom (restOf t (now (cnv .entry)) (now (seq .entry)))) (now (out .entry)) (now (out .exit)) (t .to) r (now (cnv .exit)) (now (seq .exit)) ⌝ }
 {
-    let mut line = [0u8; LINE_ROOM];
-    let t = take_turn(b, at, m, cnv, seq, &mut line, 0);
-    copy_turn(t, &line, out, to)
+    let to = t.to;
+    let mut lines = [0u8; LINE_ROOM];
+    let played = play_block(b, true, from_start(t), cnv, seq, &mut lines);
+    copy_lines(played, &lines, out, to)
 }
 
 // Plays what is left of a tape, until it stops or there is no room. Answers the place after the last line, also where that lies past the end.
@@ -232,7 +223,7 @@ fn play_rest(b: &[u8], t: Turned, cnv: &mut [u64], seq: &mut [u64], out: &mut [u
 {
     let mut t = t;
     while t.more & (t.next < b.len()) & (t.to <= out.len()) {
-        t = turn_into(b, t.next, t.mount, cnv, seq, out, t.to);
+        t = block_into(b, t, cnv, seq, out);
     }
     t.to
 }
@@ -254,8 +245,8 @@ fn play_with(b: &[u8], cnv: &mut [u64], seq: &mut [u64], out: &mut [u8]) -> Play
     ensures { λ _. ⌜ now (out .exit) ≡ sets (now (out .entry)) 0 (textWith (now (b .entry)) (now (cnv .entry)) (now (seq .entry))) ⌝ }
 {
     let mut line = [0u8; LINE_ROOM];
-    let t = open_tape(b, cnv, seq, &mut line, 0);
-    let t = copy_turn(t, &line, out, 0);
+    let t = tape_turns::open_tape(b, cnv, seq, &mut line, 0);
+    let t = copy_lines(t, &line, out, 0);
     let end = play_rest(b, t, cnv, seq, out);
     played_to(end, out.len())
 }

@@ -1,9 +1,9 @@
 use mathlib.Core.Path.{sym, _∙_}
 use native.Mathlib.Omega.{arith}
-use Rattle.tape.specs.Tape.{turnAt}
+use Rattle.tape_turns.specs.Turns.{turnAt}
 use borrow.Author.Needs.{needs}
-use Rattle.tape.proofs.take_turn.Statement.{statement}
-use Rattle.tape.proofs.take_turn.Tie as tie
+use Rattle.tape_turns.proofs.take_turn.Statement.{statement}
+use Rattle.tape_turns.proofs.take_turn.Tie as tie
 
 record-at-requires : tie.Need-record-at-requires
 record-at-requires c κs = tt

@@ -1,6 +1,6 @@
 use borrow.Author.Needs.{needs}
-use Rattle.tape.proofs.mount_from.Statement.{statement}
-use Rattle.tape.proofs.mount_from.Tie as tie
+use Rattle.tape_turns.proofs.mount_from.Statement.{statement}
+use Rattle.tape_turns.proofs.mount_from.Tie as tie
 
 block-of-requires : tie.Need-block-of-requires
 block-of-requires c κs = search needs

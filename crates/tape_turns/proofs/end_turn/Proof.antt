@@ -1,8 +1,8 @@
-use Rattle.tape.specs.Facts.{stateOf}
-use Rattle.tape.proofs.Turns.{ended}
+use Rattle.tape_turns.specs.Facts.{stateOf}
+use Rattle.tape_turns.proofs.Turns.{ended}
 use borrow.Author.Needs.{needs}
-use Rattle.tape.proofs.end_turn.Statement.{statement}
-use Rattle.tape.proofs.end_turn.Tie as tie
+use Rattle.tape_turns.proofs.end_turn.Statement.{statement}
+use Rattle.tape_turns.proofs.end_turn.Tie as tie
 
 end-bytes-requires : tie.Need-end-bytes-requires
 end-bytes-requires c κs = tt

@@ -1,10 +1,10 @@
 use mathlib.Core.Path.{ap, _∙_}
 use Rattle.tape_lines.specs.Lines.{mountLine}
-use Rattle.tape.specs.Tape.{goesOn}
-use Rattle.tape.proofs.Turns.{takes}
+use Rattle.tape_turns.specs.Turns.{goesOn}
+use Rattle.tape_turns.proofs.Turns.{takes}
 use borrow.Author.Needs.{needs}
-use Rattle.tape.proofs.mount_turn.Statement.{statement}
-use Rattle.tape.proofs.mount_turn.Tie as tie
+use Rattle.tape_turns.proofs.mount_turn.Statement.{statement}
+use Rattle.tape_turns.proofs.mount_turn.Tie as tie
 
 run-place-requires : tie.Need-run-place-requires
 run-place-requires c κs = search needs

@@ -1,7 +1,7 @@
 use mathlib.Core.Path.{refl}
 use borrow.Author.Needs.{needs}
-use Rattle.tape.proofs.call_turn.Statement.{statement}
-use Rattle.tape.proofs.call_turn.Tie as tie
+use Rattle.tape_turns.proofs.call_turn.Statement.{statement}
+use Rattle.tape_turns.proofs.call_turn.Tie as tie
 
 call-by-requires : tie.Need-call-by-requires
 call-by-requires c κs = tt

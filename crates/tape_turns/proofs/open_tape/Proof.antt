@@ -1,8 +1,8 @@
 use mathlib.Core.Path.{sym, _∙_}
-use Rattle.tape.specs.Tape.{openTurn}
+use Rattle.tape_turns.specs.Turns.{openTurn}
 use borrow.Author.Needs.{needs}
-use Rattle.tape.proofs.open_tape.Statement.{statement}
-use Rattle.tape.proofs.open_tape.Tie as tie
+use Rattle.tape_turns.proofs.open_tape.Statement.{statement}
+use Rattle.tape_turns.proofs.open_tape.Tie as tie
 
 opens-requires : tie.Need-opens-requires
 opens-requires c κs = tt

@@ -1,11 +1,9 @@
--- A turn that was taken, from what its line and the rest are, and into other bytes.
+-- A turn that was taken, from what its line and the rest are.
 -- Assumes nothing.
 use mathlib.Core.Path.{_≡_, refl, subst, ap, _∙_}
 use mathlib.Core.List.{List}
 use mathlib.Core.Bool.{Bool, true}
 use Prim.Native.Nat.{ℕ, _+_, _≤_}
-use native.Mathlib.Omega.{arith}
-use lib.ListN.{length, take}
 use Rattle.types.specs.declared.FileKind.the-variants.{Conventional, Sequential}
 use Rattle.types.specs.declared.Mount.{Mount}
 use Rattle.types.specs.declared.Outcome.{Outcome}
@@ -14,12 +12,11 @@ use Rattle.completion.specs.Completions.{completionBy, stored, effectOf}
 use Rattle.tape_records.specs.declared.Mark.{Mark}
 use Rattle.tape_records.specs.Records.{endMark, endBytes, endRecord}
 use Rattle.tape_lines.specs.Lines.{completionLine}
-use Rattle.tape.specs.declared.Turned.{Turned}
+use Rattle.tape_turns.specs.declared.Turned.{Turned}
 use Rattle.text.specs.Facts.{Put}
-use Rattle.tape.specs.Tape.{State, Turn, turn, endTurn}
+use Rattle.tape_turns.specs.Turns.{State, turn, endTurn}
 use Rattle.tape_lines.specs.Facts.{lineRoom}
-use Rattle.tape.specs.Facts.{Takes, Copies, stateOf}
-use Rattle.tape.proofs.Stores.{first-part}
+use Rattle.tape_turns.specs.Facts.{Takes, stateOf}
 
 -- what a completion leaves of a state: its outcome, and both tables
 abbrev Effects : Effect → State → Outcome → List ℕ → List ℕ → Type 0
@@ -52,18 +49,3 @@ ended {cnv = cnv} {seq} {o = o} b at n bytes s done e h f p l =
     (k .1 .0)
     (k .1 .1)
     (p .1)
-
--- ---- into other bytes
-
--- its line was put at the start of some bytes, and copied from there
-pub copied-turn : {t : Turn} {before after out out' cnv seq : List ℕ} {to : ℕ} {r end : Turned}
-    → Takes t before after 0 r cnv seq → lineRoom ≤ length before → Copies r after out out' to end
-    → Takes t out out' to end cnv seq
-copied-turn {t} {before} {after} {out} {out'} {to = to} {r} {end} p room q =
-    let n : r .to ≡ length (t .line) = omega (arith, p .line .place) in
-    let e : take (r .to) after ≡ t .line = rw (n, p .line .bytes) (first-part before (t .line) (omega (arith, p .room))) in
-    record {
-      line = subst (λ (l : List ℕ). Put out out' to (end .to) l) e (q .copy);
-      rest = cc (p .rest);
-      room = omega (arith, q .copy .place, p .room, ap length e);
-    }
