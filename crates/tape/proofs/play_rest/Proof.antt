@@ -6,8 +6,9 @@ use lib.ListN.{length}
 use borrow.Author.Tests.{leb-true}
 use Rattle.types.proofs.Tests.{and-left, and-right}
 use Rattle.tape.specs.Tape.{goesFurther, textFrom}
-use Rattle.tape.specs.Facts.{restOf}
-use Rattle.tape.proofs.Playing.{left, fewer, Going, begin, again, over}
+use Rattle.tape_turns.specs.Facts.{restOf}
+use Rattle.tape.proofs.Playing.{fewer, Going, begin, again, over}
+use Rattle.tape.proofs.Texts.{left}
 use Rattle.tape.proofs.play_rest.Statement.{statement}
 use Rattle.tape.proofs.play_rest.Tie as tie
 
@@ -22,18 +23,18 @@ abbrev μ-loop : tie.MeasureT-loop
 loop-holds : tie.Need-loop-holds Inv-loop μ-loop
 loop-holds c = (refl, refl, refl, begin (c .before .before .before .before .args .out .now) (c .before .before .before .before .args .b .now) (c .before .before .before .before .args .t .to) (restOf (c .before .before .before .before .args .t) (c .before .before .before .before .args .cnv .now) (c .before .before .before .before .args .seq .now)))
 
-turn-into-requires : tie.Need-turn-into-requires Inv-loop μ-loop
-turn-into-requires c κs = let r = restOf (c .before .before .before .before .before .before .before .loop .t) (c .before .before .before .before .before .before .before .loop .cnv) (c .before .before .before .before .before .before .before .loop .seq) in
+block-into-requires : tie.Need-block-into-requires Inv-loop μ-loop
+block-into-requires c κs = let r = restOf (c .before .before .before .before .before .before .before .loop .t) (c .before .before .before .before .before .before .before .loop .cnv) (c .before .before .before .before .before .before .before .loop .seq) in
     leb-true (c .before .before .before .before .before .before .before .loop .t .to) (length (c .before .before .before .before .before .before .before .loop .out)) (and-right (goesFurther (c .before .before .before .before .before .before .before .before .before .before .before .before .args .b .now) r) _ (c .before .before .before .if1 .taken))
 
 loop-less : tie.Need-loop-less Inv-loop μ-loop
 loop-less c = let l = c .before .before .before .before .before .before .before .before .before .before .before .before .before .before .loop in
-    fewer (c .before .before .before .before .before .before .before .before .before .before .before .before .before .before .before .before .before .before .before .args .b .now) (restOf (l .t) (l .cnv) (l .seq)) (c .before .before .before .before .before .before .turn-into .result) (and-left _ _ (c .before .before .before .before .before .before .before .before .before .before .if1 .taken)) (c .before .before .before .before .before .before .turn-into .ensures)
+    fewer (c .before .before .before .before .before .before .before .before .before .before .before .before .before .before .before .before .before .before .before .args .b .now) (restOf (l .t) (l .cnv) (l .seq)) (c .before .before .before .before .before .before .block-into .result) (and-left _ _ (c .before .before .before .before .before .before .before .before .before .before .if1 .taken)) (c .before .before .before .before .before .before .block-into .ensures)
 
 loop-again : tie.Need-loop-again Inv-loop μ-loop
-loop-again c = let k = c .before .before .before .before .before .before .turn-into .kept .1 .1 .1 in
+loop-again c = let k = c .before .before .before .before .before .before .block-into .kept .1 .1 in
     let i = c .before .before .before .before .before .before .before .before .before .before .before .before .before .before .loop .inv in
-    (k .0 ∙ i .0, k .1 .0 ∙ i .1, k .1 .1 .0 ∙ i .2, again (c .before .before .before .before .before .before .turn-into .result) (i .3) (and-left _ _ (c .before .before .before .before .before .before .before .before .before .before .if1 .taken)) (c .before .before .before .before .before .before .turn-into .ensures))
+    (k .0 ∙ i .0, k .1 .0 ∙ i .1, k .1 .1 .0 ∙ i .2, again (c .before .before .before .before .before .before .block-into .result) (i .3) (c .before .before .before .before .before .before .block-into .ensures))
 
 same-length : tie.Need-same-length Inv-loop μ-loop
 same-length c = c .before .before .before .before .loop .inv .0
@@ -55,7 +56,7 @@ play-rest-spec =
     Inv-loop
     μ-loop
     loop-holds
-    turn-into-requires
+    block-into-requires
     loop-less
     loop-again
     same-length

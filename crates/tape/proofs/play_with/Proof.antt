@@ -1,8 +1,7 @@
 use mathlib.Core.Path.{_∙_}
-use Rattle.tape.specs.Tape.{openTurn}
+use Rattle.tape_turns.specs.Turns.{openTurn}
 use native.Mathlib.Omega.{arith}
-use Rattle.tape.proofs.Turns.{copied-turn}
-use Rattle.tape.proofs.Playing.{tape-text, answered}
+use Rattle.tape.proofs.Playing.{copied, played, tape-text, answered}
 use borrow.Author.Needs.{needs}
 use Rattle.tape.proofs.play_with.Statement.{statement}
 use Rattle.tape.proofs.play_with.Tie as tie
@@ -13,11 +12,11 @@ slice-aggregate-open-tape c = search needs
 open-tape-requires : tie.Need-open-tape-requires
 open-tape-requires c κs = search needs
 
-slice-aggregate-copy-turn : tie.Need-slice-aggregate-copy-turn
-slice-aggregate-copy-turn c = search needs
+slice-aggregate-copy-lines : tie.Need-slice-aggregate-copy-lines
+slice-aggregate-copy-lines c = search needs
 
-copy-turn-requires : tie.Need-copy-turn-requires
-copy-turn-requires c κs = search needs
+copy-lines-requires : tie.Need-copy-lines-requires
+copy-lines-requires c κs = search needs
 
 play-rest-requires : tie.Need-play-rest-requires
 play-rest-requires c κs = tt
@@ -36,7 +35,7 @@ same-length-3 c = search needs
 
 returns : tie.Need-returns
 returns c = let a = c .before .before .before .before .before .before .before .before .before .before .before .before .before .before .before .before .before .before .before .before .before .before .before .before .before .before .before .before .before .args in
-    let t = copied-turn {t = openTurn (a .b .now) (a .cnv .now) (a .seq .now)} (c .before .before .before .before .before .before .before .before .before .before .before .before .before .before .before .before .before .before .before .before .before .open-tape .ensures) (omega arith) (c .before .before .before .before .before .before .before .before .before .before .before .before .before .copy-turn .ensures) in
+    let t = copied {t = openTurn (a .b .now) (a .cnv .now) (a .seq .now)} (played (c .before .before .before .before .before .before .before .before .before .before .before .before .before .before .before .before .before .before .before .before .before .open-tape .ensures)) (omega arith) (c .before .before .before .before .before .before .before .before .before .before .before .before .before .copy-lines .ensures) in
     let f = tape-text (a .b .now) (a .cnv .now) (a .seq .now) t (c .before .before .before .before .before .before .before .play-rest .ensures) in
     (c .played-to .ensures ∙ answered _ f, f .bytes)
 
@@ -46,8 +45,8 @@ play-with-spec =
     (tie.spec
     slice-aggregate-open-tape
     open-tape-requires
-    slice-aggregate-copy-turn
-    copy-turn-requires
+    slice-aggregate-copy-lines
+    copy-lines-requires
     play-rest-requires
     played-to-requires
     same-length

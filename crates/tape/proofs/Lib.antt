@@ -1,0 +1,9 @@
+pub mod Blocks
+pub mod Loop
+pub mod Openings
+pub mod Parts
+pub mod Pieces
+pub mod Playing
+pub mod Stores
+pub mod Texts
+pub mod Windows
