@@ -1,175 +1,76 @@
 // Plays a tape, from the file that its argument names or from standard input, and writes the lines that it prints.
+// What is read is played by `tape`, whose functions say exactly what they do; here is only what reads and writes.
 ghost use mathlib.Core.Path.{_≡_};
 ghost use mathlib.Core.Bool.{true};
-ghost use Prim.Native.Nat.{_+_, _≤_};
-ghost use lib.ListN.{length};
+ghost use Prim.Native.Nat.{_≤_};
+ghost use lib.ListN.{length, take};
 ghost use Rattle.tape_lines.specs.Facts.{lineRoom};
 use libc::STDERR_FILENO;
 use libc::STDIN_FILENO;
 use libc::STDOUT_FILENO;
+use tape::Kept;
 use tape::TABLE_WORDS;
-use tape::Turned;
-use tape_lines::LINE_ROOM;
-use tape_records::FAILED_BYTES;
 
 // The bytes of a tape that are read at once, with room for its first four records whole; and those of the lines that are written at once.
 const READ_BYTES: usize = 131072;
 
 const WRITE_BYTES: usize = 65536;
 
-// No record after the first four is longer.
-const LONGEST_RECORD: usize = FAILED_BYTES;
-
-// How far the input was read: the bytes that are there, whether it may go on, and whether it can't be read.
+// How far the input was read: the bytes that are there, whether it has ended, and whether it can't be read.
 pub struct Input {
     pub have: usize,
-    pub more: bool,
+    pub ended: bool,
     pub failed: bool,
 }
 
-// How far a tape was played: what its last record left, the bytes that were read, whether they are the last, and
-// whether there is more to do.
+// How far a tape was played: what its last part left, whether the input has ended, and whether there is more to do.
 pub struct Playing {
-    pub turned: Turned,
-    pub have: usize,
+    pub kept: Kept,
     pub ended: bool,
     pub going: bool,
 }
 
-// Reads once, to the bytes from `have` on.
+// Reads once, behind the first `have` bytes, which stay as they are.
 fn read_once(fd: i32, name: &[u8], b: &mut [u8], have: usize) -> Input
     requires { ⌜ have ≤ length (now b) ⌝ }
-    ensures { λ r. ⌜ r .have ≤ length (now (b .entry)) ⌝ }
+    ensures { λ r. ⌜ (have ≤ r .have) × (r .have ≤ length (now (b .entry))) ⌝ }
+    ensures { λ _. ⌜ take have (now (b .exit)) ≡ take have (now (b .entry)) ⌝ }
 {
     let got = libc::read(fd, &mut b[have..]);
     if got < 0 {
         os::fail(name);
         return Input {
             have,
-            more: false,
+            ended: true,
             failed: true,
         };
     }
     let n = io::count(got, &b[have..]);
     Input {
         have: have + n,
-        more: 0 < n,
+        ended: n == 0,
         failed: false,
     }
 }
 
-// Reads until `b` is full or the input has ended. A read that isn't the last brings a byte at least, so there are no
-// more of them than bytes.
-fn fill(fd: i32, name: &[u8], b: &mut [u8], have: usize) -> Input
+// Reads until `b` is full or the input has ended; the first `have` bytes stay as they are. A read that isn't the last brings a byte at least,
+// so there are no more of them than bytes.
+fn fill(fd: i32, name: &[u8], b: &mut [u8], have: usize, ended: bool) -> Input
     requires { ⌜ have ≤ length (now b) ⌝ }
-    ensures { λ r. ⌜ r .have ≤ length (now (b .entry)) ⌝ }
+    ensures { λ r. ⌜ (have ≤ r .have) × (r .have ≤ length (now (b .entry))) ⌝ }
+    ensures { λ _. ⌜ take have (now (b .exit)) ≡ take have (now (b .entry)) ⌝ }
 {
     let mut input = Input {
         have,
-        more: true,
+        ended,
         failed: false,
     };
     let mut reads = b.len();
-    while 0 < reads {
-        if !input.more | (b.len() <= input.have) {
-            return input;
-        }
+    while (0 < reads) & !input.ended & (input.have < b.len()) {
         input = read_once(fd, name, b, input.have);
         reads -= 1;
     }
     input
-}
-
-// As many bytes from `next` on as the longest record has hold a whole one.
-fn is_low(next: usize, have: usize) -> bool {
-    if have <= next {
-        true
-    } else {
-        have - next < LONGEST_RECORD
-    }
-}
-
-// Whether the next record can be played: it stands whole among the bytes that are there, or they are the last, and
-// there is room for its line.
-fn is_ready(more: bool, next: usize, have: usize, ended: bool, to: usize, room: usize) -> bool
-    ensures { λ r. ⌜ (r ≡ true → to + lineRoom ≤ room) ⌝ }
-{
-    if have <= next {
-        return false;
-    }
-    if room < to {
-        return false;
-    }
-    if room - to < LINE_ROOM {
-        return false;
-    }
-    more & (ended | !is_low(next, have))
-}
-
-// Plays the records that are ready.
-fn play_block(
-    b: &[u8],
-    t: Turned,
-    ended: bool,
-    cnv: &mut [u64],
-    seq: &mut [u64],
-    out: &mut [u8],
-) -> Turned
-    requires { ⌜ t .to ≤ length (now out) ⌝ }
-    ensures { λ r. ⌜ r .to ≤ length (now (out .entry)) ⌝ }
-{
-    let mut t = t;
-    let mut records = b.len();
-    while 0 < records {
-        if !is_ready(t.more, t.next, b.len(), ended, t.to, out.len()) {
-            return t;
-        }
-        t = tape::take_turn(b, t.next, t.mount, cnv, seq, out, t.to);
-        records -= 1;
-    }
-    t
-}
-
-// Moves the `n` bytes from `from` on to the front.
-fn move_down(b: &mut [u8], from: usize, n: usize)
-    requires { ⌜ from + n ≤ length (now b) ⌝ }
-{
-    for i in 0..n {
-        b[i] = b[from + i];
-    }
-}
-
-// Moves the bytes from `from` to `have` to the front. Answers how many they are.
-fn keep_rest(b: &mut [u8], from: usize, have: usize) -> usize
-    requires { ⌜ have ≤ length (now b) ⌝ }
-    ensures { λ r. ⌜ r ≤ length (now (b .entry)) ⌝ }
-{
-    if have <= from {
-        return 0;
-    }
-    move_down(b, from, have - from);
-    have - from
-}
-
-// Moves the bytes that are left to the front, and reads on behind them.
-fn refill(fd: i32, name: &[u8], b: &mut [u8], t: Turned, have: usize) -> Playing
-    requires { ⌜ (have ≤ length (now b)) × (t .to ≡ 0) ⌝ }
-    ensures { λ r. ⌜ (r .have ≤ length (now (b .entry))) × (r .turned .to ≡ 0) ⌝ }
-{
-    let mount = t.mount;
-    let left = keep_rest(b, t.next, have);
-    let input = fill(fd, name, b, left);
-    Playing {
-        turned: Turned {
-            to: t.to,
-            more: t.more,
-            next: 0,
-            mount,
-        },
-        have: input.have,
-        ended: !input.more,
-        going: !input.failed,
-    }
 }
 
 // Writes the lines before `end`. Answers whether they could be written.
@@ -183,68 +84,40 @@ fn write_lines(out: &[u8], end: usize) -> bool
     is_written
 }
 
-// The tape from the record on that comes next, with all lines so far written.
-fn written(t: Turned) -> Turned
-    ensures { λ r. ⌜ r .to ≡ 0 ⌝ }
-{
-    let mount = t.mount;
-    Turned {
-        to: 0,
-        more: t.more,
-        next: t.next,
-        mount,
-    }
-}
-
-// Reads on where there are too few bytes for the next record.
+// Reads behind what is left, and plays on.
 fn read_on(
     fd: i32,
     name: &[u8],
-    b: &mut [u8],
-    t: Turned,
-    have: usize,
+    kept: Kept,
     ended: bool,
-    is_written: bool,
-) -> Playing
-    requires { ⌜ (have ≤ length (now b)) × (t .to ≡ 0) ⌝ }
-    ensures { λ r. ⌜ (r .have ≤ length (now (b .entry))) × (r .turned .to ≡ 0) ⌝ }
-{
-    let next = t.next;
-    if t.more & is_written & !ended & is_low(next, have) {
-        return refill(fd, name, b, t, have);
-    }
-    Playing {
-        turned: t,
-        have,
-        ended,
-        going: t.more & is_written & (next < have),
-    }
-}
-
-// Plays the records that are ready, writes their lines, and reads on where there are too few bytes for the next.
-fn play_some(
-    fd: i32,
-    name: &[u8],
-    p: Playing,
     b: &mut [u8],
     cnv: &mut [u64],
     seq: &mut [u64],
     out: &mut [u8],
 ) -> Playing
-    requires { ⌜ (p .have ≤ length (now b)) × (p .turned .to ≤ length (now out)) ⌝ }
-    ensures { λ r. ⌜ (r .have ≤ length (now (b .entry))) × (r .turned .to ≡ 0) ⌝ }
+    requires { ⌜ kept .left ≤ length (now b) ⌝ }
+    ensures { λ r. ⌜ r .kept .left ≤ length (now (b .entry)) ⌝ }
+    ensures { λ r. ⌜ (r .going ≡ true → r .kept .turned .to ≤ length (now (out .entry))) ⌝ }
 {
-    let have = p.have;
-    let ended = p.ended;
-    let turned = p.turned;
-    let t = play_block(&b[..have], turned, ended, cnv, seq, out);
-    let end = t.to;
-    let is_written = write_lines(&out[..], end);
-    read_on(fd, name, b, written(t), have, ended, is_written)
+    let input = fill(fd, name, b, kept.left, ended);
+    if input.failed {
+        return Playing {
+            kept,
+            ended: true,
+            going: false,
+        };
+    }
+    let turned = kept.turned;
+    let next = tape::next_part(b, input.have, input.ended, turned, cnv, seq, out);
+    Playing {
+        kept: next,
+        ended: input.ended,
+        going: true,
+    }
 }
 
-// Plays a tape to its end. A proved loop has to end, and nothing says that the input does: so its turns are counted
-// down, from a number that no run uses up.
+// Writes the lines of a part and plays on, until the tape is over. A proved loop has to end, and nothing says that the input does: so its turns
+// are counted down, from a number that no run uses up.
 fn play_on(
     fd: i32,
     name: &[u8],
@@ -254,33 +127,34 @@ fn play_on(
     seq: &mut [u64],
     out: &mut [u8],
 )
-    requires { ⌜ (p .have ≤ length (now b)) × (p .turned .to ≤ length (now out)) ⌝ }
+    requires { ⌜ (p .kept .left ≤ length (now b)) × (p .going ≡ true → p .kept .turned .to ≤ length (now out)) ⌝ }
 {
     let mut p = p;
     let mut turns = u64::MAX;
-    while 0 < turns {
-        if !p.going {
+    while (0 < turns) & p.going {
+        let kept = p.kept;
+        let turned = kept.turned;
+        let is_written = write_lines(&out[..], turned.to);
+        if !is_written | tape::is_over(turned.more, p.ended, kept.left) {
             return;
         }
-        p = play_some(fd, name, p, b, cnv, seq, out);
+        p = read_on(fd, name, kept, p.ended, b, cnv, seq, out);
         turns -= 1;
     }
 }
 
-// Reads a tape's first bytes, plays the records that open it, and then the others.
+// Reads a tape's first bytes, plays the records that open it and those after them, and then the others.
 fn play_tape(fd: i32, name: &[u8], b: &mut [u8], cnv: &mut [u64], seq: &mut [u64], out: &mut [u8])
     requires { ⌜ lineRoom ≤ length (now out) ⌝ }
 {
-    let input = fill(fd, name, b, 0);
+    let input = fill(fd, name, b, 0, false);
     if input.failed {
         return;
     }
-    let have = input.have;
-    let turned = tape::open_tape(&b[..have], cnv, seq, out, 0);
+    let kept = tape::first_part(b, input.have, input.ended, cnv, seq, out);
     let p = Playing {
-        turned,
-        have,
-        ended: !input.more,
+        kept,
+        ended: input.ended,
         going: true,
     };
     play_on(fd, name, p, b, cnv, seq, out);

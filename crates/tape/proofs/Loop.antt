@@ -57,7 +57,7 @@ again {whole} {before} {mid} {now} {b} {cnv} {seq} {ended} {from} {to} {room} {r
         let line = turnAt b (r .next) (r .state) .line in
         let rest = turnAt b (r .next) (r .state) .rest in
         let there : blockFrom n ended b (t .to) room (restOf t cnv seq) ≡ blockFrom n ended b (to + length line) room rest =
-            ap (λ (x : Rest). blockFrom n ended b (t .to) room x) (p .rest) ∙ ap (λ (i : ℕ). blockFrom n ended b i room rest) (p .line .place) in
+        ap (λ (x : Rest). blockFrom n ended b (t .to) room x) (p .rest) ∙ ap (λ (i : ℕ). blockFrom n ended b i room rest) (p .line .place) in
         record {
           sofar = g .sofar ++ line;
           allowed = n;

@@ -6,7 +6,7 @@ use mathlib.Core.Bool.{Bool}
 use Prim.Native.Nat.{ℕ, _≤_}
 use native.Mathlib.Omega.{arith}
 use native.Mathlib.Nat.{zero-add}
-use lib.ListN.{length, drop}
+use lib.ListN.{length, drop, length-drop}
 use lib.Seq.{sets, length-sets}
 use Rattle.text.specs.Facts.{Put}
 use Rattle.text.proofs.Stores.{then}
@@ -27,9 +27,10 @@ frontTurned t = record { to = t .to; more = t .more; next = 0; mount = t .mount 
 pub keeps : {buffer kept before after cnv seq : List ℕ} {to left : ℕ} {played turned : Turned} (ended : Bool) (held : List ℕ) (room : ℕ) (r : Rest)
     → Plays (blockOf ended held to room r) before after to played cnv seq → (to ≤ length before → played .to ≤ length before)
     → left ≡ length (drop (played .next) held) → kept ≡ sets buffer 0 (drop (played .next) held) → turned ≡ frontTurned played
+    → length held ≤ length buffer
     → Keeps (partOf ended held to room r) buffer kept before after to (record { turned = turned; left = left }) cnv seq
 unfolding partOf
-keeps {buffer} {kept} {before} {after} {cnv} {seq} {to} {left} {played} {turned} ended held room r p inside l f e =
+keeps {buffer} {kept} {before} {after} {cnv} {seq} {to} {left} {played} {turned} ended held room r p inside l f e fits =
     let t = blockOf ended held to room r in
     let n : played .next ≡ t .rest .next = ap (λ (x : Rest). x .next) (p .rest) in
     record {
@@ -37,6 +38,7 @@ keeps {buffer} {kept} {before} {after} {cnv} {seq} {to} {left} {played} {turned}
       front = f ∙ ap (λ (k : ℕ). sets buffer 0 (drop k held)) n;
       held = l ∙ ap (λ (k : ℕ). length (drop k held)) n;
       rest = ap (λ (x : Turned). restOf x cnv seq) e ∙ ap atFront (p .rest);
+      short = omega (arith, l, length-drop (played .next) held);
       inside = λ h. subst (λ (x : Turned). x .to ≤ length before) (sym e) (inside h);
     }
 
@@ -50,14 +52,15 @@ first-keeps {buffer} {kept} {before} {mid} {after} {cnv'} {seq'} {cnv''} {seq''}
     let same : length mid ≡ length before = ap length (p .line .bytes) ∙ length-sets before 0 (t .line) in
     let to : opened .to ≡ length (t .line) = p .line .place ∙ zero-add (length (t .line)) in
     let e : partOf ended held (opened .to) (length mid) (restOf opened cnv' seq') ≡ partOf ended held (length (t .line)) (length before) (t .rest) =
-        ap (λ (n : ℕ). partOf ended held n (length mid) (restOf opened cnv' seq')) to
-        ∙ ap (λ (n : ℕ). partOf ended held (length (t .line)) n (restOf opened cnv' seq')) same
-        ∙ ap (partOf ended held (length (t .line)) (length before)) (p .rest) in
+    ap (λ (n : ℕ). partOf ended held n (length mid) (restOf opened cnv' seq')) to
+    ∙ ap (λ (n : ℕ). partOf ended held (length (t .line)) n (restOf opened cnv' seq')) same
+    ∙ ap (partOf ended held (length (t .line)) (length before)) (p .rest) in
     let g = subst (λ x. Keeps x buffer kept mid after (opened .to) k cnv'' seq'') e q in
     record {
       lines = then (p .line) (g .lines);
       front = g .front;
       held = g .held;
       rest = g .rest;
+      short = g .short;
       inside = λ _. omega (arith, same, g .inside (omega (arith, same, wide, p .room)));
     }

@@ -56,7 +56,7 @@ rest-text room p (x ∷ xs) unread z o =
     let f = joined xs ++ unread in
     let q = nextPart room h x in
     let all : h .bytes ++ ((x .bytes ++ joined xs) ++ unread) ≡ (h .bytes ++ x .bytes) ++ f =
-        ap (λ (l : List ℕ). h .bytes ++ l) (append-assoc (x .bytes) (joined xs) unread) ∙ sym (append-assoc (h .bytes) (x .bytes) f) in
+    ap (λ (l : List ℕ). h .bytes ++ l) (append-assoc (x .bytes) (joined xs) unread) ∙ sym (append-assoc (h .bytes) (x .bytes) f) in
     ap (λ (l : List ℕ). p .text ++ textOf l (h .rest)) all
     ∙ ap (λ (l : List ℕ). p .text ++ l) (part-text (x .last) (h .bytes ++ x .bytes) f 0 room (h .rest) (o .0) (λ _. omega (arith, z)))
     ∙ ap (λ (l : List ℕ). p .text ++ l) (rest-text room q xs unread (part-front (x .last) (h .bytes ++ x .bytes) 0 room (h .rest)) (o .1))
@@ -114,11 +114,11 @@ writes-tape room x xs unread h =
     let lines = linesFrom room p xs in
     let rest = textOf (held .bytes ++ unread) (held .rest) in
     let all : lines ++ rest ≡ textWith ((x .bytes ++ joined xs) ++ unread) noRows noRows =
-        sym (rest-text room p xs unread (first-front room x noRows noRows .0) (o .1))
-        ∙ sym (first-text room x f noRows noRows (o .0) (h .bytes) (h .opening))
-        ∙ ap (λ (l : List ℕ). textWith l noRows noRows) (sym (append-assoc (x .bytes) (joined xs) unread)) in
+    sym (rest-text room p xs unread (first-front room x noRows noRows .0) (o .1))
+    ∙ sym (first-text room x f noRows noRows (o .0) (h .bytes) (h .opening))
+    ∙ ap (λ (l : List ℕ). textWith l noRows noRows) (sym (append-assoc (x .bytes) (joined xs) unread)) in
     let none : held .ended ≡ true → unread ≡ [] =
-        nothing-unread room p xs unread (λ e. o .0 (sym (first-front room x noRows noRows .1) ∙ e)) (o .1) in
+    nothing-unread room p xs unread (λ e. o .0 (sym (first-front room x noRows noRows .1) ∙ e)) (o .1) in
     record {
       due = rest;
       beginning = all;
@@ -132,7 +132,7 @@ unfolding GetsOn partOf
 gets-on room h x wide more front some enough e =
     let b = h .bytes ++ x .bytes in
     let told : isTold (x .last) (length b) (h .rest .next) ≡ true =
-        cases (x .last) (λ d. rw d) (λ d. rw d (le-leb (h .rest .next + longestRecord) (length b) (omega (arith, enough d)))) in
+    cases (x .last) (λ d. rw d) (λ d. rw d (le-leb (h .rest .next + longestRecord) (length b) (omega (arith, enough d)))) in
     let ready : isReady (h .rest .more) (h .rest .next) (x .last) (length b) 0 room ≡ true =
-        both (both more (lt-ltb (h .rest .next) (length b) (omega arith))) (both told (le-leb lineRoom room wide)) in
+    both (both more (lt-ltb (h .rest .next) (length b) (omega arith))) (both told (le-leb lineRoom room wide)) in
     omega (arith, length-drop (blockOf (x .last) b 0 room (h .rest) .rest .next) b, block-onward (length b) (x .last) b 0 room (h .rest) some ready e)

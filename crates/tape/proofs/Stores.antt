@@ -32,7 +32,7 @@ moved l from i h =
     let part = drop from l in
     let inside : i < length part = omega (arith, length-drop from l) in
     let byte : getD (sets l 0 (take i part)) (from + i) 0 ≡ getD part i 0 =
-        past (take i part) l 0 (from + i) (omega (arith, length-take-le i part (omega arith))) ∙ sym (getD-drop from l i 0) in
+    past (take i part) l 0 (from + i) (omega (arith, length-take-le i part (omega arith))) ∙ sym (getD-drop from l i 0) in
     ap (λ (x : ℕ). set (sets l 0 (take i part)) i x) byte
     ∙ ap (λ (k : ℕ). set (sets l 0 (take i part)) k (getD part i 0)) (sym (zero-add i))
     ∙ copied l part 0 i inside

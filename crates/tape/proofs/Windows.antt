@@ -36,8 +36,8 @@ number-alike zero b c at there f = refl
 number-alike (suc n) b c at there f =
     let first : getD b at 0 ≡ getD c there 0 = ap (λ i. getD b i 0) (sym (add-zero at)) ∙ f 0 (omega arith) ∙ ap (λ i. getD c i 0) (add-zero there) in
     let rest : le n b (at + 1) ≡ le n c (there + 1) =
-        number-alike n b c (at + 1) (there + 1)
-        (λ i h. ap (λ j. getD b j 0) (omega arith) ∙ f (i + 1) (omega arith) ∙ ap (λ j. getD c j 0) (omega arith)) in
+    number-alike n b c (at + 1) (there + 1)
+    (λ i h. ap (λ j. getD b j 0) (omega arith) ∙ f (i + 1) (omega arith) ∙ ap (λ j. getD c j 0) (omega arith)) in
     cc
 
 module _ {b : List ℕ} {at : ℕ} {c : List ℕ} {there : ℕ} (a : Alike b at c there) where

@@ -29,4 +29,5 @@ pub record Keeps (p : Part) (buffer left before after : List ℕ) (to : ℕ) (r 
   pub front : left ≡ sets buffer 0 (p .held .bytes)
   pub held : r .left ≡ length (p .held .bytes)
   pub rest : restOf (r .turned) cnv seq ≡ p .held .rest
+  pub short : r .left ≤ length buffer
   pub inside : to ≤ length before → r .turned .to ≤ length before

@@ -83,7 +83,7 @@ unfoldable pub WritesTape : Type 0
 WritesTape =
     (room : ℕ) (first : Piece) (later : List Piece) (unread : List ℕ) → Handed first later unread
     → let p = firstPart room first noRows noRows in
-      Writes (linesFrom room p later) (tapeText (joined (first ∷ later) ++ unread)) (heldAfter room p later)
+    Writes (linesFrom room p later) (tapeText (joined (first ∷ later) ++ unread)) (heldAfter room p later)
 
 -- and it gets on: with room for a line, a piece that ends the input or brings enough for a record leaves fewer bytes than there were
 unfoldable pub GetsOn : Type 0

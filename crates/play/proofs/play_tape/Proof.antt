@@ -1,6 +1,4 @@
-use mathlib.Core.Path.{sym}
 use native.Mathlib.Omega.{arith}
-use lib.Seq.{length-take-le}
 use borrow.Author.Needs.{needs}
 use Rattle.play.proofs.play_tape.Statement.{statement}
 use Rattle.play.proofs.play_tape.Tie as tie
@@ -14,17 +12,13 @@ same-length c = search needs
 returns : tie.Need-returns
 returns c = search needs
 
-slice-reshare-prefix-open-tape : tie.Need-slice-reshare-prefix-open-tape
-slice-reshare-prefix-open-tape c = search needs
-
-slice-aggregate-open-tape : tie.Need-slice-aggregate-open-tape
-slice-aggregate-open-tape c = sym (length-take-le _ _ (omega (arith, c .before .before .before .before .fill .ensures, c .before .before .before .before .fill .kept .1 .1 .0)))
-
-open-tape-requires : tie.Need-open-tape-requires
-open-tape-requires c κs = search needs
+first-part-requires : tie.Need-first-part-requires
+first-part-requires c κs = search needs
 
 play-on-requires : tie.Need-play-on-requires
-play-on-requires c κs = (omega (arith, c .before .before .before .before .before .before .before .before .before .before .before .before .before .before .before .before .before .before .before .fill .ensures, c .before .before .before .before .before .before .before .before .before .before .before .before .before .before .before .before .before .before .before .fill .kept .1 .1 .0), omega (arith, c .before .before .before .before .before .before .before .before .before .before .before .open-tape .ensures .room, c .before .before .before .before .before .before .before .before .before .before .before .open-tape .kept .1 .1 .1 .0, c .before .before .before .before .before .before .before .before .before .before .before .before .before .before .before .before .before .before .before .before .before .before .before .before .before .before .pre))
+play-on-requires c κs =
+    let p = c .before .before .before .before .before .before .before .before .before .before .before .before .first-part in
+    (omega (arith, p .ensures .short, p .kept .0), λ _. omega (arith, p .ensures .inside (omega arith), p .kept .1 .1 .1 .1 .1 .0))
 
 same-length-2 : tie.Need-same-length-2
 same-length-2 c = search needs
@@ -48,9 +42,7 @@ play-tape-spec =
     fill-requires
     same-length
     returns
-    slice-reshare-prefix-open-tape
-    slice-aggregate-open-tape
-    open-tape-requires
+    first-part-requires
     play-on-requires
     same-length-2
     same-length-3

@@ -32,8 +32,7 @@ returns-2 c =
     let a = c .before .before .before .before .before .before .args in
     let n : a .from + (a .have - a .from) ≡ a .have = omega arith in
     let e : take (a .have - a .from) (drop (a .from) (a .b .now)) ≡ drop (a .from) (take (a .have) (a .b .now)) =
-        between (a .b .now) (a .from) (a .have - a .from) (omega arith) ∙ ap (λ k. drop (a .from) (take k (a .b .now))) n in
-    (
+    between (a .b .now) (a .from) (a .have - a .from) (omega arith) ∙ ap (λ k. drop (a .from) (take k (a .b .now))) n in (
       omega (arith, length-drop (a .from) (take (a .have) (a .b .now)), length-take-le (a .have) (a .b .now) (c .before .before .before .before .before .before .pre)),
       c .before .before .move-down .ensures ∙ ap (λ x. sets (a .b .now) 0 x) e,
     )

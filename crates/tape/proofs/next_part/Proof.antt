@@ -1,4 +1,3 @@
-
 use borrow.Author.Needs.{needs}
 use Rattle.tape.proofs.next_part.Statement.{statement}
 use Rattle.tape.proofs.next_part.Tie as tie

@@ -48,8 +48,7 @@ loop-again c =
     let e = sym (c .before .before .before .before .before .before .before .before .before .before .before .is-ready .ensures) ∙ c .before .before .before .before .before .before .before .before .before .before .if1 .taken in
     let w = subst (λ (n : ℕ). isReady (l .t .more) (l .t .next) (a .ended) (length (a .b .now)) (l .t .to) n ≡ true) (i .2) e in
     let turn = c .before .before .before .before .before .before .take-turn in
-    let k = turn .kept .1 .1 .1 in
-    (
+    let k = turn .kept .1 .1 .1 in (
       k .0 ∙ i .0,
       k .1 .0 ∙ i .1,
       k .1 .1 .0 ∙ i .2,

@@ -1,4 +1,5 @@
 use mathlib.Core.Path.{sym}
+use native.Mathlib.Omega.{arith}
 use lib.ListN.{length, take}
 use lib.Seq.{length-take-le}
 use Rattle.tape_turns.specs.Facts.{restOf}
@@ -39,6 +40,7 @@ returns c = let a = c .before .before .before .before .before .before .before .b
     let p = c .before .before .before .before .before .before .before .before .before .before .before .play-block .ensures in
     let k = c .before .before .before .keep-rest .ensures in
     keeps (a .ended) (take (a .have) (a .b .now)) (length (a .out .now)) (restOf (a .t) (a .cnv .now) (a .seq .now)) (p .0) (p .1) (k .0) (k .1) (c .at-front .ensures)
+    (omega (arith, length-take-le (a .have) (a .b .now) (c .before .before .before .before .before .before .before .before .before .before .before .before .before .before .before .before .before .before .before .before .pre), c .before .before .before .before .before .before .before .before .before .before .before .before .before .before .before .before .before .before .before .before .pre))
 
 pub play-part-spec : {M : Type 1} → statement M
 play-part-spec =

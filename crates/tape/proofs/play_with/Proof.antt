@@ -35,7 +35,7 @@ same-length-3 c = search needs
 
 returns : tie.Need-returns
 returns c = let a = c .before .before .before .before .before .before .before .before .before .before .before .before .before .before .before .before .before .before .before .before .before .before .before .before .before .before .before .before .before .args in
-    let t = copied {t = openTurn (a .b .now) (a .cnv .now) (a .seq .now)} (played (c .before .before .before .before .before .before .before .before .before .before .before .before .before .before .before .before .before .before .before .before .before .open-tape .ensures)) (omega arith) (c .before .before .before .before .before .before .before .before .before .before .before .before .before .copy-lines .ensures) in
+    let t = copied {t = openTurn (a .b .now) (a .cnv .now) (a .seq .now)} (played {t = openTurn (a .b .now) (a .cnv .now) (a .seq .now)} (c .before .before .before .before .before .before .before .before .before .before .before .before .before .before .before .before .before .before .before .before .before .open-tape .ensures)) (omega arith) (c .before .before .before .before .before .before .before .before .before .before .before .before .before .copy-lines .ensures) in
     let f = tape-text (a .b .now) (a .cnv .now) (a .seq .now) t (c .before .before .before .before .before .before .before .play-rest .ensures) in
     (c .played-to .ensures ∙ answered _ f, f .bytes)
 
