@@ -1,10 +1,11 @@
 // Plays a tape, from the file that its argument names or from standard input, and writes the lines that it prints.
 // What is read is played by `tape`, whose functions say exactly what they do; here is only what reads and writes.
 ghost use mathlib.Core.Path.{_≡_};
-ghost use mathlib.Core.Bool.{true};
-ghost use Prim.Native.Nat.{_≤_};
+ghost use mathlib.Core.Bool.{true, false};
+ghost use Prim.Native.Nat.{_≤_, _<_};
 ghost use lib.ListN.{length, take};
 ghost use Rattle.tape_lines.specs.Facts.{lineRoom};
+ghost use Rattle.tape.specs.Pieces.{longestOpening};
 use libc::STDERR_FILENO;
 use libc::STDIN_FILENO;
 use libc::STDOUT_FILENO;
@@ -33,7 +34,7 @@ pub struct Playing {
 // Reads once, behind the first `have` bytes, which stay as they are.
 fn read_once(fd: i32, name: &[u8], b: &mut [u8], have: usize) -> Input
     requires { ⌜ have ≤ length (now b) ⌝ }
-    ensures { λ r. ⌜ (have ≤ r .have) × (r .have ≤ length (now (b .entry))) ⌝ }
+    ensures { λ r. ⌜ (have ≤ r .have) × (r .have ≤ length (now (b .entry))) × (r .ended ≡ false → have < r .have) ⌝ }
     ensures { λ _. ⌜ take have (now (b .exit)) ≡ take have (now (b .entry)) ⌝ }
 {
     let got = libc::read(fd, &mut b[have..]);
@@ -54,10 +55,10 @@ fn read_once(fd: i32, name: &[u8], b: &mut [u8], have: usize) -> Input
 }
 
 // Reads until `b` is full or the input has ended; the first `have` bytes stay as they are. A read that isn't the last brings a byte at least,
-// so there are no more of them than bytes.
+// so that this ends.
 fn fill(fd: i32, name: &[u8], b: &mut [u8], have: usize, ended: bool) -> Input
     requires { ⌜ have ≤ length (now b) ⌝ }
-    ensures { λ r. ⌜ (have ≤ r .have) × (r .have ≤ length (now (b .entry))) ⌝ }
+    ensures { λ r. ⌜ (have ≤ r .have) × (r .have ≤ length (now (b .entry))) × (r .ended ≡ false → r .have ≡ length (now (b .entry))) ⌝ }
     ensures { λ _. ⌜ take have (now (b .exit)) ≡ take have (now (b .entry)) ⌝ }
 {
     let mut input = Input {
@@ -65,10 +66,8 @@ fn fill(fd: i32, name: &[u8], b: &mut [u8], have: usize, ended: bool) -> Input
         ended,
         failed: false,
     };
-    let mut reads = b.len();
-    while (0 < reads) & !input.ended & (input.have < b.len()) {
+    while !input.ended & (input.have < b.len()) {
         input = read_once(fd, name, b, input.have);
-        reads -= 1;
     }
     input
 }
@@ -145,7 +144,7 @@ fn play_on(
 
 // Reads a tape's first bytes, plays the records that open it and those after them, and then the others.
 fn play_tape(fd: i32, name: &[u8], b: &mut [u8], cnv: &mut [u64], seq: &mut [u64], out: &mut [u8])
-    requires { ⌜ lineRoom ≤ length (now out) ⌝ }
+    requires { ⌜ (longestOpening ≤ length (now b)) × (lineRoom ≤ length (now out)) ⌝ }
 {
     let input = fill(fd, name, b, 0, false);
     if input.failed {

@@ -1,6 +1,6 @@
 // A tape: a block of its records played into lent bytes, what is kept of a buffer for the next block, and a whole tape in memory.
 ghost use mathlib.Core.Path.{_≡_};
-ghost use mathlib.Core.Bool.{true};
+ghost use mathlib.Core.Bool.{true, false};
 ghost use Prim.Native.Nat.{_+_, _^_, _≤_, _<_};
 ghost use lib.ListN.{length, take, drop};
 ghost use lib.Seq.{sets};
@@ -9,7 +9,7 @@ ghost use Rattle.tape_lines.specs.Facts.{lineRoom};
 ghost use Rattle.tape_turns.specs.Facts.{restOf};
 ghost use Rattle.tape.specs.Tape.{textFrom, textWith, tapeText, playedTo, playedInto};
 ghost use Rattle.tape.specs.Blocks.{isTold, hasRoom, isReady, blockOf, partOf};
-ghost use Rattle.tape.specs.Pieces.{pieceOf, firstPart, isOver};
+ghost use Rattle.tape.specs.Pieces.{pieceOf, longestOpening, firstPart, isOver};
 ghost use Rattle.tape.specs.Facts.{Plays, Copies, Keeps};
 use table::ROW_WORDS;
 use tape_lines::LINE_ROOM;
@@ -152,7 +152,7 @@ fn play_part(
     Kept { turned, left }
 }
 
-// Opens a tape by the first `have` bytes, and plays on among them.
+// Opens a tape by the first `have` bytes, which are the last or hold its first four records whole, and plays on among them.
 pub fn first_part(
     b: &mut [u8],
     have: usize,
@@ -161,7 +161,7 @@ pub fn first_part(
     seq: &mut [u64],
     out: &mut [u8],
 ) -> Kept
-    requires { ⌜ (have ≤ length (now b)) × (lineRoom ≤ length (now out)) ⌝ }
+    requires { ⌜ (have ≤ length (now b)) × (lineRoom ≤ length (now out)) × (ended ≡ false → longestOpening ≤ have) ⌝ }
     ensures { λ r. ⌜ Keeps (firstPart (length (now (out .entry))) (pieceOf (take have (now (b .entry))) ended) (now (cnv .entry)) (now (seq .entry))) (now (b .entry)) (now (b .exit)) (now (out .entry)) (now (out .exit)) 0 r (now (cnv .exit)) (now (seq .exit)) ⌝ }
 {
     let opened = tape_turns::open_tape(&b[..have], cnv, seq, out, 0);
