@@ -23,9 +23,12 @@
  * memory holds: each function answers for every content, and reads or writes nothing outside the slices. One thread at a time may use
  * one mount's memory.
  *
- * Each function returns one of the numbers below. Where a slice for mount words or answer words is too short, or the mount words hold
- * no mount value, the number is ZONEFS_IMPOSSIBLE and nothing is written. Otherwise the answer words are written, also with a refusal: word 0
- * is the number of values, and words 1 to 6 are the values, with 0 after the last.
+ * Each function but zonefs_checksum returns one of the numbers below. Where a slice for mount words or answer words is too short, or the mount
+ * words hold no mount value, the number is ZONEFS_IMPOSSIBLE and nothing is written. Otherwise the answer words are written, also with a
+ * refusal: word 0 is the number of values, and words 1 to 6 are the values, with 0 after the last.
+ *
+ * A table has as many rows as its words divided by ZONEFS_ROW_WORDS, rounded down. Too few rows for the files answer ZONEFS_TOO_FEW_ROWS to a mount
+ * and ZONEFS_IMPOSSIBLE after it; more than needed are left alone.
  *
  * A sector has 512 bytes. Where a file starts is given in sectors; sizes, capacities, offsets, addresses and lengths of commands in bytes.
  */
@@ -76,7 +79,7 @@ enum {
   ZONEFS_BAD_OPTIONS = 27,        /* options */
   ZONEFS_BAD_REPORT = 28,         /* report header or length */
   ZONEFS_BAD_ZONE = 29,           /* bad zone; one value: the lowest number of one */
-  ZONEFS_TOO_FEW_ROWS = 30        /* too few rows for either kind */
+  ZONEFS_TOO_FEW_ROWS = 30        /* too few rows in the tables for the files of either kind */
 };
 
 /* Kinds of files, as an argument and as a value. */

@@ -16,6 +16,12 @@
 #define SEQ_WORDS 15u /* three files, so that the tables cannot be taken for one another */
 #define BYTES(sectors) ((uint64_t)(sectors) * 512u)
 
+#ifdef __cplusplus
+#define LANGUAGE "C++"
+#else
+#define LANGUAGE "C"
+#endif
+
 /* the same volume twice: as the plain functions have it, and as a struct */
 static uint64_t mount_words[16], cnv[CNV_WORDS], seq[SEQ_WORDS], words[7];
 static uint64_t volume_cnv[CNV_WORDS], volume_seq[SEQ_WORDS];
@@ -337,6 +343,6 @@ int main(void) {
   try_calls();
   try_failures();
   check_numbers();
-  printf("volume: %u answers, as the plain functions give them\n", compared);
+  printf("volume in " LANGUAGE ": %u answers, as the plain functions give them\n", compared);
   return 0;
 }
