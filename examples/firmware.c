@@ -3,11 +3,12 @@
  * The disk is played by this program: it makes up the super block, the zone report, and the record that comes with the failure.
  * It prints each step, and ends with status 1 where a step answers otherwise than it should. Build and run: docs/LINKING.md.
  */
+#include <inttypes.h>
 #include <stdio.h>
 #include <stdlib.h>
 #include <string.h>
 
-#include "zonefs.h"
+#include "zonefs_volume.h"
 
 #define BLOCK 4096u
 #define SECTOR 512u
@@ -16,13 +17,10 @@
 #define CAPACITY_SECTORS 393216u
 #define ROWS 4u /* this volume has two files of each kind; ZONEFS_MOST_FILES rows are enough for any */
 
-/* What the library is lent, from the mount on. A controller keeps these for each volume. */
-static uint64_t mount_words[ZONEFS_MOUNT_WORDS];
+/* A controller keeps these for each volume. */
 static uint64_t cnv[ROWS * ZONEFS_ROW_WORDS];
 static uint64_t seq[ROWS * ZONEFS_ROW_WORDS];
-static uint64_t answer[ZONEFS_ANSWER_WORDS];
-
-#define LENT(words) (words), (sizeof(words) / sizeof((words)[0]))
+static struct zonefs_volume volume;
 
 static void put(uint8_t *bytes, uint64_t value, unsigned count) {
   unsigned i;
@@ -40,12 +38,12 @@ static void make_super_block(uint8_t *block) {
 /* A zone record. Types: 1 conventional, 2 sequential. */
 static void make_zone(uint8_t *record, uint64_t start, unsigned type, unsigned condition, uint64_t capacity, uint64_t pointer) {
   memset(record, 0, ZONEFS_ZONE_BYTES);
-  put(record, start, 8);
-  put(record + 8, ZONE_SECTORS, 8);
-  put(record + 16, pointer, 8);
-  record[24] = (uint8_t)type;
-  record[25] = (uint8_t)condition;
-  put(record + 32, capacity, 8);
+  put(record + ZONEFS_RECORD_START, start, 8);
+  put(record + ZONEFS_RECORD_LENGTH, ZONE_SECTORS, 8);
+  put(record + ZONEFS_RECORD_POINTER, pointer, 8);
+  record[ZONEFS_RECORD_TYPE] = (uint8_t)type;
+  record[ZONEFS_RECORD_CONDITION] = (uint8_t)condition;
+  put(record + ZONEFS_RECORD_CAPACITY, capacity, 8);
 }
 
 /* Three conventional zones, then a sequential one with a block written, and an empty one. */
@@ -53,70 +51,87 @@ static void make_report(uint8_t *report) {
   unsigned i;
   uint8_t *zones = report + ZONEFS_HEADER_BYTES;
   memset(report, 0, ZONEFS_HEADER_BYTES);
-  put(report + 8, ZONES, 4);
-  put(report + 12, 1, 4); /* capacity given */
+  put(report + ZONEFS_REPORT_COUNT, ZONES, 4);
+  put(report + ZONEFS_REPORT_FLAGS, ZONEFS_CAPACITY_GIVEN, 4);
   for (i = 0; i < 3; i++)
     make_zone(zones + i * ZONEFS_ZONE_BYTES, (uint64_t)i * ZONE_SECTORS, 1, 0, ZONE_SECTORS, 0);
   make_zone(zones + 3 * ZONEFS_ZONE_BYTES, 3ull * ZONE_SECTORS, 2, 2, CAPACITY_SECTORS, 3ull * ZONE_SECTORS + BLOCK / SECTOR);
   make_zone(zones + 4 * ZONEFS_ZONE_BYTES, 4ull * ZONE_SECTORS, 2, 1, CAPACITY_SECTORS, 4ull * ZONE_SECTORS);
 }
 
+/* Prints what an answer has beside its number. */
+static void print_values(struct zonefs_volume_answer a) {
+  switch (a.outcome) {
+  case ZONEFS_VOLUME_MOUNTED: printf(" %" PRIu32 " %" PRIu32, a.cnv_files, a.seq_files); break;
+  case ZONEFS_VOLUME_FOUND: printf(" %" PRIu32 " %" PRIu32, a.file_kind, a.file_number); break;
+  case ZONEFS_VOLUME_SHOWN:
+    printf(" %" PRIu64 " %" PRIu64 " %" PRIu64, a.start, a.capacity, a.size);
+    printf(" %" PRIu32 " %" PRIu32 " %" PRIu32, a.condition, a.access, a.mode);
+    break;
+  case ZONEFS_VOLUME_COMMAND: printf(" %" PRIu32 " %" PRIu64 " %" PRIu64, a.command, a.address, a.length); break;
+  case ZONEFS_VOLUME_DONE: printf(" %" PRIu64, a.count); break;
+  case ZONEFS_VOLUME_FAILED: printf(" %" PRIu64, a.size); break;
+  case ZONEFS_VOLUME_REFUSED: break;
+  }
+}
+
 /* Prints a step, and stops the program if its number isn't the one expected. */
-static void step(const char *what, uint64_t number, uint64_t expected) {
-  unsigned i;
-  printf("%-34s %2u:", what, (unsigned)number);
-  for (i = 1; i <= answer[0]; i++)
-    printf(" %llu", (unsigned long long)answer[i]);
+static void step(const char *what, struct zonefs_volume_answer a, uint64_t expected) {
+  printf("%-34s %2" PRIu64 ":", what, a.number);
+  print_values(a);
   printf("\n");
-  if (number != expected) {
-    printf("expected %u\n", (unsigned)expected);
+  if (a.number != expected) {
+    printf("%s; expected %" PRIu64 "\n", zonefs_volume_refusal_text(a.number), expected);
     exit(1);
   }
 }
 
-static uint64_t append(uint64_t offset, uint64_t length) {
-  return zonefs_write(LENT(mount_words), LENT(cnv), LENT(seq), ZONEFS_SEQ, 0, offset, length, LENT(answer));
+static struct zonefs_volume_answer append(uint64_t offset, uint64_t length) {
+  return zonefs_volume_write(&volume, ZONEFS_SEQ, 0, offset, length);
 }
 
 static uint64_t size_now(void) {
-  step("show seq/0", zonefs_show(LENT(mount_words), LENT(cnv), LENT(seq), ZONEFS_SEQ, 0, LENT(answer)), ZONEFS_OK);
-  return answer[3];
+  struct zonefs_volume_answer shown = zonefs_volume_show(&volume, ZONEFS_SEQ, 0);
+  step("show seq/0", shown, ZONEFS_OK);
+  return shown.size;
+}
+
+/* Lends the tables to the volume, and mounts it from the disk's first bytes and its report. */
+static void mount_volume(void) {
+  static uint8_t super_block[ZONEFS_SUPER_BYTES];
+  static uint8_t report[ZONEFS_HEADER_BYTES + ZONES * ZONEFS_ZONE_BYTES];
+  make_super_block(super_block);
+  make_report(report);
+  zonefs_volume_lend(&volume, cnv, ROWS * ZONEFS_ROW_WORDS, seq, ROWS * ZONEFS_ROW_WORDS);
+  step("mount",
+       zonefs_volume_mount(&volume, BLOCK, super_block, sizeof(super_block), "errors=repair", report, sizeof(report)),
+       ZONEFS_OK);
 }
 
 int main(void) {
-  static uint8_t super_block[ZONEFS_SUPER_BYTES];
-  static uint8_t report[ZONEFS_HEADER_BYTES + ZONES * ZONEFS_ZONE_BYTES];
-  static const uint8_t options[] = "errors=repair";
-  static const uint8_t name[] = "seq/0";
   uint8_t record[ZONEFS_ZONE_BYTES];
   uint64_t size;
 
-  make_super_block(super_block);
-  make_report(report);
-  step("mount",
-       zonefs_mount(BLOCK, LENT(super_block), options, sizeof(options) - 1, LENT(report), LENT(cnv), LENT(seq),
-                    LENT(mount_words), LENT(answer)),
-       ZONEFS_OK);
-  step("find seq/0", zonefs_find(LENT(mount_words), LENT(cnv), LENT(seq), name, sizeof(name) - 1, LENT(answer)), ZONEFS_OK);
+  mount_volume();
+  step("find seq/0", zonefs_volume_find(&volume, "seq/0"), ZONEFS_OK);
   size = size_now();
 
-  /* answer[1] to answer[3] are the command for the disk: here it does it */
+  /* the answer has the command for the disk: here it does it */
   step("append 8192", append(size, 8192), ZONEFS_OK);
-  step("the disk did it", zonefs_complete(LENT(mount_words), LENT(cnv), LENT(seq), LENT(answer)), ZONEFS_OK);
+  step("the disk did it", zonefs_volume_complete(&volume), ZONEFS_OK);
   size = size_now();
 
   /* of the next two blocks only one lands: the record has the pointer behind it */
   step("append 8192", append(size, 8192), ZONEFS_OK);
   step("append while it is outstanding", append(size, 8192), ZONEFS_BUSY);
   make_zone(record, 3ull * ZONE_SECTORS, 2, 2, CAPACITY_SECTORS, 3ull * ZONE_SECTORS + (size + BLOCK) / SECTOR);
-  step("the disk failed halfway", zonefs_fail(LENT(mount_words), LENT(cnv), LENT(seq), LENT(record), 1, LENT(answer)),
-       ZONEFS_FAILED);
+  step("the disk failed halfway", zonefs_volume_fail(&volume, record, sizeof(record), ZONEFS_CAPACITY_GIVEN), ZONEFS_FAILED);
 
   /* the size is what is on the disk, so the rest is appended there */
   step("append where it had been", append(size, 4096), ZONEFS_MISPLACED);
   size = size_now();
   step("append 4096", append(size, 4096), ZONEFS_OK);
-  step("the disk did it", zonefs_complete(LENT(mount_words), LENT(cnv), LENT(seq), LENT(answer)), ZONEFS_OK);
+  step("the disk did it", zonefs_volume_complete(&volume), ZONEFS_OK);
   if (size_now() != 20480) {
     printf("the file should have five blocks\n");
     return 1;

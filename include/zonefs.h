@@ -1,5 +1,15 @@
 /*
- * zonefs.h: the proved library for C and C++. Link with libcapi.a (see docs/LINKING.md).
+ * zonefs.h: the proved library for C and C++. Link with libcapi.a (see docs/LINKING.md). zonefs_volume.h has the same functions over one
+ * struct, which is what most programs want.
+ *
+ * The library mounts a zoned disk, decides each call on its files, and digests what the disk reports back. A file is a zone, or a run of
+ * zones: of kind cnv in conventional zones, of kind seq in a sequential one. The library itself does nothing to the disk: a call answers with
+ * a command, the caller has the disk do it, and then tells the library how that went.
+ *
+ *   zonefs_mount                                        once, with the disk's first bytes and its zone report
+ *   zonefs_read, _write, _truncate, _flush              refused, answered at once, or a command for the disk, which is then outstanding
+ *   zonefs_complete, zonefs_fail                        the outstanding command was done, or failed; the next call may follow
+ *   zonefs_find, zonefs_show                            look up a name or a file, at any time
  *
  * The library keeps nothing: no heap, no globals, no input or output. What it knows of a mounted volume lives in memory
  * that the caller lends to each call:
@@ -13,9 +23,14 @@
  * memory holds: each function answers for every content, and reads or writes nothing outside the slices. One thread at a time may use
  * one mount's memory.
  *
- * Each function returns one of the numbers below. Where a slice for mount words or answer words is too short, or the mount words hold
- * no mount value, the number is ZONEFS_IMPOSSIBLE and nothing is written. Otherwise the answer words are written: word 0 is the
- * number of values, and words 1 to 6 are the values, with 0 after the last.
+ * Each function but zonefs_checksum returns one of the numbers below. Where a slice for mount words or answer words is too short, or the mount
+ * words hold no mount value, the number is ZONEFS_IMPOSSIBLE and nothing is written. Otherwise the answer words are written, also with a
+ * refusal: word 0 is the number of values, and words 1 to 6 are the values, with 0 after the last.
+ *
+ * A table has as many rows as its words divided by ZONEFS_ROW_WORDS, rounded down. Too few rows for the files answer ZONEFS_TOO_FEW_ROWS to a mount
+ * and ZONEFS_IMPOSSIBLE after it; more than needed are left alone.
+ *
+ * A sector has 512 bytes. Where a file starts is given in sectors; sizes, capacities, offsets, addresses and lengths of commands in bytes.
  */
 #ifndef ZONEFS_H
 #define ZONEFS_H
@@ -35,7 +50,7 @@ extern "C" {
 /* The most files of a kind, so that tables of this many rows are always long enough. */
 #define ZONEFS_MOST_FILES 1022
 
-/* The bytes of a super block, of a report's header, of a zone record, and the most zones of a report. */
+/* The bytes of a super block, of a report's header and of a zone record, and the most zones of a report. */
 #define ZONEFS_SUPER_BYTES 4096
 #define ZONEFS_HEADER_BYTES 16
 #define ZONEFS_ZONE_BYTES 64
@@ -53,7 +68,7 @@ enum {
   ZONEFS_FAILED = 7,              /* the disk failed it, and that was digested; one value: the file's new size */
   ZONEFS_NOTHING_OUTSTANDING = 8, /* completion with nothing outstanding */
   ZONEFS_BAD_RECORD = 9,          /* the failed completion's zone record doesn't fit; the command stays outstanding */
-  ZONEFS_IMPOSSIBLE = 10,         /* mount value or tables impossible, or words too short */
+  ZONEFS_IMPOSSIBLE = 10,         /* mount value or tables impossible, or mount words, answer words or tables too short */
   ZONEFS_BAD_BLOCK = 20,          /* block neither 512 nor 4096 */
   ZONEFS_SUPER_LENGTH = 21,       /* super block: length, magic, checksum */
   ZONEFS_SUPER_MAGIC = 22,
@@ -64,7 +79,7 @@ enum {
   ZONEFS_BAD_OPTIONS = 27,        /* options */
   ZONEFS_BAD_REPORT = 28,         /* report header or length */
   ZONEFS_BAD_ZONE = 29,           /* bad zone; one value: the lowest number of one */
-  ZONEFS_TOO_FEW_ROWS = 30        /* too few rows for either kind */
+  ZONEFS_TOO_FEW_ROWS = 30        /* too few rows in the tables for the files of either kind */
 };
 
 /* Kinds of files, as an argument and as a value. */
@@ -85,6 +100,47 @@ enum { ZONEFS_ACCESS_NONE = 0, ZONEFS_ACCESS_READ = 1, ZONEFS_ACCESS_WRITE = 2 }
 
 /* The option errors=, in the mount words. */
 enum { ZONEFS_REMOUNT_RO = 0, ZONEFS_ZONE_RO = 1, ZONEFS_ZONE_OFFLINE = 2, ZONEFS_REPAIR = 3 };
+
+/*
+ * The words of an answer: how many values there are, and where each stands. What a word means depends on the function, on the number that it
+ * returned and, after a call, on ZONEFS_ANSWER_VALUES. With a number that is not named here there is no value.
+ */
+enum {
+  ZONEFS_ANSWER_VALUES = 0,
+
+  /* zonefs_read, _write, _truncate, _flush: 0 with ZONEFS_AT_ONCE value; zonefs_complete: 0 */
+  ZONEFS_ANSWER_COUNT = 1,      /* the bytes read or written */
+
+  /* zonefs_read, _write, _truncate, _flush: 0 with ZONEFS_COMMANDED values */
+  ZONEFS_ANSWER_COMMAND = 1,    /* ZONEFS_COMMAND_READ to ZONEFS_COMMAND_FLUSH */
+  ZONEFS_ANSWER_ADDRESS = 2,    /* in bytes from the start of the disk */
+  ZONEFS_ANSWER_LENGTH = 3,     /* in bytes, 0 but for reads and writes */
+
+  /* zonefs_fail: 7 */
+  ZONEFS_ANSWER_NEW_SIZE = 1,   /* the file's size now */
+
+  /* zonefs_mount: 0 */
+  ZONEFS_ANSWER_CNV_FILES = 1,
+  ZONEFS_ANSWER_SEQ_FILES = 2,
+
+  /* zonefs_mount: 29 */
+  ZONEFS_ANSWER_ZONE = 1,       /* the lowest number of a bad zone */
+
+  /* zonefs_find: 0 */
+  ZONEFS_ANSWER_KIND = 1,
+  ZONEFS_ANSWER_NUMBER = 2,
+
+  /* zonefs_show: 0 */
+  ZONEFS_ANSWER_START = 1,      /* in sectors */
+  ZONEFS_ANSWER_CAPACITY = 2,
+  ZONEFS_ANSWER_SIZE = 3,
+  ZONEFS_ANSWER_CONDITION = 4,
+  ZONEFS_ANSWER_ACCESS = 5,
+  ZONEFS_ANSWER_MODE = 6        /* the permission bits, as of chmod */
+};
+
+/* How many values a call answers beside 0: it is over at once, or a command is to be done. */
+enum { ZONEFS_AT_ONCE = 1, ZONEFS_COMMANDED = 3 };
 
 /* The words of a row. */
 enum {
@@ -119,10 +175,34 @@ enum {
 };
 
 /*
- * Mounts. Reads the block (512 or 4096), the 4,096 bytes of the first sector, the option text (up to 255 bytes, without a final zero) and
- * the zone report. Writes the rows of the files to the front of both tables, and the mount words.
- * Returns 0, with two values, the numbers of cnv and of seq files; or 10 (words too short), 20 to 30. Refused by 20 to 30, the tables
- * are as they were, and the mount words are all 0, with which every call answers 10 and every completion 8.
+ * A zone report and a zone record are the bytes of struct blk_zone_report, with its zones, and of struct blk_zone of linux/blkzoned.h, as
+ * BLKREPORTZONE gives them on a little-endian machine. All numbers are little-endian, positions and lengths are in sectors, and bytes not
+ * named here are not looked at. Where each field stands, in bytes:
+ */
+enum {
+  ZONEFS_REPORT_SECTOR = 0,     /* 8 bytes: where the report begins, 0 */
+  ZONEFS_REPORT_COUNT = 8,      /* 4 bytes: how many zones follow, as returned, 1 to ZONEFS_MOST_ZONES */
+  ZONEFS_REPORT_FLAGS = 12,     /* 4 bytes: ZONEFS_CAPACITY_GIVEN or 0 */
+
+  ZONEFS_RECORD_START = 0,      /* 8 bytes */
+  ZONEFS_RECORD_LENGTH = 8,     /* 8 bytes */
+  ZONEFS_RECORD_POINTER = 16,   /* 8 bytes: the write pointer; of a full zone it has to be start + capacity */
+  ZONEFS_RECORD_TYPE = 24,      /* 1 byte: 1 conventional, 2 or 3 sequential */
+  ZONEFS_RECORD_CONDITION = 25, /* 1 byte: 0 no pointer; 1 empty, 2 or 3 open, 4 closed, 14 full; 13 read-only, 15 offline */
+  ZONEFS_RECORD_CAPACITY = 32   /* 8 bytes, looked at only with ZONEFS_CAPACITY_GIVEN; without it the capacity is the length */
+};
+
+/* BLK_ZONE_REP_CAPACITY, the only flag of a report. */
+enum { ZONEFS_CAPACITY_GIVEN = 1 };
+
+/*
+ * Mounts. Reads the block (512 or 4096), the disk's first 4,096 bytes (the super block), the option text and the zone report. The options
+ * are up to 255 bytes without a final zero: errors=remount-ro, errors=zone-ro, errors=zone-offline or errors=repair; of several, split by
+ * commas, the last counts, and of none errors=remount-ro. The report is one piece from the first zone on, and its length is exactly
+ * ZONEFS_HEADER_BYTES + ZONEFS_ZONE_BYTES for each zone that its header counts.
+ * Writes the rows of the files to the front of both tables, and the mount words.
+ * Returns 0, with two values, the numbers of cnv and of seq files; or 10 (mount or answer words too short), 20 to 30. Refused by 20 to 30, the
+ * tables are as they were, and the mount words are all 0, with which every call answers 10 and every completion 8.
  */
 uint64_t zonefs_mount(uint64_t block, const uint8_t *superblock, size_t superblock_bytes, const uint8_t *options,
                       size_t options_bytes, const uint8_t *report, size_t report_bytes, uint64_t *cnv, size_t cnv_words,
@@ -130,14 +210,14 @@ uint64_t zonefs_mount(uint64_t block, const uint8_t *superblock, size_t superblo
                       size_t answer_words);
 
 /*
- * Finds a name such as "seq/12", without a final zero. Reads mount words and tables; writes the answer words only.
+ * Finds a name such as "seq/12", given without a final zero. Reads mount words and tables; writes the answer words only.
  * Returns 0, with two values, the kind and the number of the file; or 1, 10.
  */
 uint64_t zonefs_find(const uint64_t *mount, size_t mount_words, const uint64_t *cnv, size_t cnv_words, const uint64_t *seq,
                      size_t seq_words, const uint8_t *name, size_t name_bytes, uint64_t *answer, size_t answer_words);
 
 /*
- * Shows a file. Reads mount words and tables; writes the answer words only. A kind above 1 is no file's.
+ * Shows a file. Reads mount words and tables; writes the answer words only. Here as in the calls, a kind above 1 is no file's.
  * Returns 0, with six values, start in sectors, capacity, size, condition, access, and the mode shown; or 1, 10.
  */
 uint64_t zonefs_show(const uint64_t *mount, size_t mount_words, const uint64_t *cnv, size_t cnv_words, const uint64_t *seq,
@@ -145,9 +225,11 @@ uint64_t zonefs_show(const uint64_t *mount, size_t mount_words, const uint64_t *
 
 /*
  * The calls. Each reads mount words and tables, and writes the answer words and, of the mount words, those from ZONEFS_MOUNT_READ_ONLY on.
- * Returns 0 with one value, where it is answered at once: the count, always 0; or 0 with three values, where a command is to be done: the
- * command, its byte address and its byte length. Such a command is outstanding, until zonefs_complete or zonefs_fail. Or returns 1 to 6, 10,
- * with no value, and the mount is as it was.
+ * Returns 0 with one value (ZONEFS_AT_ONCE), where it is answered at once: the count, always 0; or 0 with three values (ZONEFS_COMMANDED),
+ * where a command is to be done: the command, its byte address and its byte length. Such a command is outstanding, until zonefs_complete or
+ * zonefs_fail. Or returns 1 to 6, 10, with no value, and the mount is as it was.
+ * A read is cut at the file's size. A seq file is written at its size only, in whole blocks. A read, or a write to a cnv file, has no
+ * alignment, and then neither has its command.
  */
 uint64_t zonefs_read(uint64_t *mount, size_t mount_words, const uint64_t *cnv, size_t cnv_words, const uint64_t *seq,
                      size_t seq_words, uint32_t kind, uint32_t number, uint64_t offset, uint64_t length, uint64_t *answer,
@@ -157,7 +239,7 @@ uint64_t zonefs_write(uint64_t *mount, size_t mount_words, const uint64_t *cnv, 
                       size_t seq_words, uint32_t kind, uint32_t number, uint64_t offset, uint64_t length, uint64_t *answer,
                       size_t answer_words);
 
-/* To the size 0 or to the capacity. */
+/* Seq files only, to the size 0 (a reset) or to the capacity (a finish). */
 uint64_t zonefs_truncate(uint64_t *mount, size_t mount_words, const uint64_t *cnv, size_t cnv_words, const uint64_t *seq,
                          size_t seq_words, uint32_t kind, uint32_t number, uint64_t size, uint64_t *answer,
                          size_t answer_words);
@@ -166,17 +248,20 @@ uint64_t zonefs_flush(uint64_t *mount, size_t mount_words, const uint64_t *cnv, 
                       size_t seq_words, uint32_t kind, uint32_t number, uint64_t *answer, size_t answer_words);
 
 /*
- * The outstanding command was done. Reads mount words and tables, and writes one row of a table at most, the answer words and, of the mount
- * words, those from ZONEFS_MOUNT_READ_ONLY on.
+ * The outstanding command was done, all of it. Reads mount words and tables, and writes one row of a table at most, the answer words and, of
+ * the mount words, those from ZONEFS_MOUNT_READ_ONLY on.
  * Returns 0 with one value, the bytes read or written, else 0; or 8, 10, with nothing changed.
  */
 uint64_t zonefs_complete(uint64_t *mount, size_t mount_words, uint64_t *cnv, size_t cnv_words, uint64_t *seq,
                          size_t seq_words, uint64_t *answer, size_t answer_words);
 
 /*
- * The outstanding command failed. Reads the 64 bytes of the zone's record as it is afterwards; capacity_given is 0 where the record states
- * no capacity, and anything else where it does. Reads and writes as zonefs_complete does.
- * Returns 7 with one value, the file's size now, and nothing is outstanding any more; or 8, 9, 10, with nothing changed.
+ * The outstanding command failed; a read or write of the disk that came out short counts as failed. The record is the 64 bytes of the zone at
+ * the command's address, as it is after the failure: also in a cnv file of several zones it is the one in which the command begins.
+ * capacity_given is 0 where the record states no capacity, and anything else where it does: the flags of the report that the record came
+ * with. Reads and writes as zonefs_complete does.
+ * Returns 7 with one value, the file's size now, and nothing is outstanding any more; or 8, 9, 10, with nothing changed. A record that is not
+ * 64 bytes long answers 9, and so does one that does not fit the file; the command then stays outstanding.
  */
 uint64_t zonefs_fail(uint64_t *mount, size_t mount_words, uint64_t *cnv, size_t cnv_words, uint64_t *seq, size_t seq_words,
                      const uint8_t *record, size_t record_bytes, uint32_t capacity_given, uint64_t *answer,

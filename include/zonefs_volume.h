@@ -1,0 +1,273 @@
+/*
+ * zonefs_volume.h: the functions of zonefs.h over one struct, with answers that have named fields. Header only, C99 and C++11. The plain
+ * functions do all the work, and zonefs.h says what each reads, writes and answers; nothing of an answer is lost here.
+ *
+ * A volume holds the mount words, and points to two tables that the caller lends. So the caller chooses the room: a few rows in firmware,
+ * ZONEFS_MOST_FILES rows of each kind where any disk has to fit. Tables inside the struct would make every volume 82 kilobytes long.
+ *
+ *   static uint64_t cnv[ROWS * ZONEFS_ROW_WORDS], seq[ROWS * ZONEFS_ROW_WORDS];
+ *   static struct zonefs_volume volume;
+ *
+ *   zonefs_volume_lend(&volume, cnv, ROWS * ZONEFS_ROW_WORDS, seq, ROWS * ZONEFS_ROW_WORDS);
+ *   answer = zonefs_volume_mount(&volume, 4096, first_bytes, 4096, "errors=repair", report, report_bytes);
+ *
+ * Until it is mounted, and after a refused mount, a volume answers as the plain functions do with mount words of 0: 10 to a call, to finding and
+ * to showing, 8 to a completion. That holds before zonefs_volume_lend too, if the struct is all zero, as a static one is; it has no rows then. A
+ * table with a null pointer always has none. A copy of the struct is no second volume: both would change the same tables.
+ */
+#ifndef ZONEFS_VOLUME_H
+#define ZONEFS_VOLUME_H
+
+#include "zonefs.h"
+
+#ifdef __cplusplus
+extern "C" {
+#endif
+
+struct zonefs_volume {
+  uint64_t mount[ZONEFS_MOUNT_WORDS]; /* ZONEFS_MOUNT_BLOCK to ZONEFS_MOUNT_HELD_LENGTH, to be read by anyone */
+  uint64_t *cnv;
+  size_t cnv_words;
+  uint64_t *seq;
+  size_t seq_words;
+};
+
+/* What kind of answer it is. */
+enum zonefs_volume_outcome {
+  ZONEFS_VOLUME_REFUSED = 0, /* the number says why; nothing changed, but for the mount words of a refused mount */
+  ZONEFS_VOLUME_FAILED = 1,  /* number 7: the disk failed the command, and that was digested */
+  ZONEFS_VOLUME_DONE = 2,    /* the call is over: at once, or because its command was completed */
+  ZONEFS_VOLUME_COMMAND = 3, /* the disk is to do a command, which is outstanding until zonefs_volume_complete or zonefs_volume_fail */
+  ZONEFS_VOLUME_MOUNTED = 4,
+  ZONEFS_VOLUME_FOUND = 5,
+  ZONEFS_VOLUME_SHOWN = 6
+};
+
+/* An answer. The fields that its outcome does not name are 0. */
+struct zonefs_volume_answer {
+  uint64_t number; /* 0, or the refusal's: ZONEFS_NO_FILE to ZONEFS_TOO_FEW_ROWS */
+  enum zonefs_volume_outcome outcome;
+
+  uint64_t count;       /* DONE: the bytes read or written */
+  uint32_t command;     /* COMMAND: ZONEFS_COMMAND_READ to ZONEFS_COMMAND_FLUSH */
+  uint64_t address;     /* COMMAND: in bytes from the start of the disk */
+  uint64_t length;      /* COMMAND: in bytes, 0 but for reads and writes */
+  uint32_t cnv_files;   /* MOUNTED */
+  uint32_t seq_files;   /* MOUNTED */
+  uint32_t zone;        /* REFUSED by ZONEFS_BAD_ZONE: the lowest number of a bad zone */
+  uint32_t file_kind;   /* FOUND: ZONEFS_CNV or ZONEFS_SEQ */
+  uint32_t file_number; /* FOUND */
+  uint64_t start;       /* SHOWN: in sectors of 512 bytes */
+  uint64_t capacity;    /* SHOWN: in bytes */
+  uint64_t size;        /* SHOWN, FAILED: the file's size now, in bytes */
+  uint32_t condition;   /* SHOWN: ZONEFS_HEALTHY to ZONEFS_OFFLINE */
+  uint32_t access;      /* SHOWN: ZONEFS_ACCESS_NONE to ZONEFS_ACCESS_WRITE */
+  uint32_t mode;        /* SHOWN: the permission bits */
+};
+
+/* What a number says, in a few words. */
+static inline const char *zonefs_volume_refusal_text(uint64_t number) {
+  switch (number) {
+  case ZONEFS_OK: return "not refused";
+  case ZONEFS_NO_FILE: return "no such file or name";
+  case ZONEFS_BUSY: return "a command is outstanding";
+  case ZONEFS_READ_ONLY: return "the mount is read-only";
+  case ZONEFS_DENIED: return "access too low, or truncation of a cnv file or to neither 0 nor capacity";
+  case ZONEFS_BEYOND_CAPACITY: return "offset + length above capacity";
+  case ZONEFS_MISPLACED: return "write to a seq file off the block or not at its size";
+  case ZONEFS_FAILED: return "the disk failed it";
+  case ZONEFS_NOTHING_OUTSTANDING: return "completion with nothing outstanding";
+  case ZONEFS_BAD_RECORD: return "the zone record does not fit; the command stays outstanding";
+  case ZONEFS_IMPOSSIBLE: return "mount words or tables impossible or too short";
+  case ZONEFS_BAD_BLOCK: return "block neither 512 nor 4096";
+  case ZONEFS_SUPER_LENGTH: return "super block not 4096 bytes long";
+  case ZONEFS_SUPER_MAGIC: return "super block with another magic number";
+  case ZONEFS_SUPER_CHECKSUM: return "super block with a wrong checksum";
+  case ZONEFS_SUPER_FEATURES: return "super block with unknown features";
+  case ZONEFS_SUPER_OWNER: return "super block with the uid or gid 0xFFFFFFFF";
+  case ZONEFS_SUPER_TAIL: return "super block with a nonzero tail";
+  case ZONEFS_BAD_OPTIONS: return "unknown or too long options";
+  case ZONEFS_BAD_REPORT: return "zone report with a bad header or another length";
+  case ZONEFS_BAD_ZONE: return "bad zone in the report";
+  case ZONEFS_TOO_FEW_ROWS: return "tables too short for the files";
+  default: return "no number of this library";
+  }
+}
+
+/* ---- how the plain functions' words become an answer; not for callers */
+
+static inline struct zonefs_volume_answer zonefs_volume_answer_bare(uint64_t number) {
+  struct zonefs_volume_answer a = {number, ZONEFS_VOLUME_REFUSED, 0, 0, 0, 0, 0, 0, 0, 0, 0, 0, 0, 0, 0, 0, 0};
+  return a;
+}
+
+static inline struct zonefs_volume_answer zonefs_volume_answer_of_mount(uint64_t number, const uint64_t *words) {
+  struct zonefs_volume_answer a = zonefs_volume_answer_bare(number);
+  if (number == ZONEFS_BAD_ZONE)
+    a.zone = (uint32_t)words[ZONEFS_ANSWER_ZONE];
+  if (number == ZONEFS_OK) {
+    a.outcome = ZONEFS_VOLUME_MOUNTED;
+    a.cnv_files = (uint32_t)words[ZONEFS_ANSWER_CNV_FILES];
+    a.seq_files = (uint32_t)words[ZONEFS_ANSWER_SEQ_FILES];
+  }
+  return a;
+}
+
+static inline struct zonefs_volume_answer zonefs_volume_answer_of_find(uint64_t number, const uint64_t *words) {
+  struct zonefs_volume_answer a = zonefs_volume_answer_bare(number);
+  if (number == ZONEFS_OK) {
+    a.outcome = ZONEFS_VOLUME_FOUND;
+    a.file_kind = (uint32_t)words[ZONEFS_ANSWER_KIND];
+    a.file_number = (uint32_t)words[ZONEFS_ANSWER_NUMBER];
+  }
+  return a;
+}
+
+static inline struct zonefs_volume_answer zonefs_volume_answer_of_show(uint64_t number, const uint64_t *words) {
+  struct zonefs_volume_answer a = zonefs_volume_answer_bare(number);
+  if (number == ZONEFS_OK) {
+    a.outcome = ZONEFS_VOLUME_SHOWN;
+    a.start = words[ZONEFS_ANSWER_START];
+    a.capacity = words[ZONEFS_ANSWER_CAPACITY];
+    a.size = words[ZONEFS_ANSWER_SIZE];
+    a.condition = (uint32_t)words[ZONEFS_ANSWER_CONDITION];
+    a.access = (uint32_t)words[ZONEFS_ANSWER_ACCESS];
+    a.mode = (uint32_t)words[ZONEFS_ANSWER_MODE];
+  }
+  return a;
+}
+
+/* of a call or a completion */
+static inline struct zonefs_volume_answer zonefs_volume_answer_of_call(uint64_t number, const uint64_t *words) {
+  struct zonefs_volume_answer a = zonefs_volume_answer_bare(number);
+  if (number == ZONEFS_FAILED) {
+    a.outcome = ZONEFS_VOLUME_FAILED;
+    a.size = words[ZONEFS_ANSWER_NEW_SIZE];
+  } else if (number == ZONEFS_OK && words[ZONEFS_ANSWER_VALUES] == ZONEFS_COMMANDED) {
+    a.outcome = ZONEFS_VOLUME_COMMAND;
+    a.command = (uint32_t)words[ZONEFS_ANSWER_COMMAND];
+    a.address = words[ZONEFS_ANSWER_ADDRESS];
+    a.length = words[ZONEFS_ANSWER_LENGTH];
+  } else if (number == ZONEFS_OK) {
+    a.outcome = ZONEFS_VOLUME_DONE;
+    a.count = words[ZONEFS_ANSWER_COUNT];
+  }
+  return a;
+}
+
+/* counted here, so that no C library is needed */
+static inline size_t zonefs_volume_text_bytes(const char *text) {
+  size_t count = 0;
+  while (text[count] != '\0')
+    count++;
+  return count;
+}
+
+/*
+ * What a volume lends to a plain function. The library takes no null pointer: for a table of no words the mount words' address stands in, of
+ * which it then reads none.
+ */
+#define ZONEFS_VOLUME_TABLE(table, words) ((table) != NULL ? (table) : volume->mount), ((table) != NULL ? (words) : 0)
+#define ZONEFS_VOLUME_TABLES ZONEFS_VOLUME_TABLE(volume->cnv, volume->cnv_words), ZONEFS_VOLUME_TABLE(volume->seq, volume->seq_words)
+#define ZONEFS_VOLUME_WORDS volume->mount, ZONEFS_MOUNT_WORDS
+#define ZONEFS_VOLUME_LENT ZONEFS_VOLUME_WORDS, ZONEFS_VOLUME_TABLES
+
+/* ---- the functions */
+
+/* Lends the tables, with the number of their words, to a volume that is not mounted yet. Nothing of them is read or written here. */
+static inline void zonefs_volume_lend(struct zonefs_volume *volume, uint64_t *cnv, size_t cnv_words, uint64_t *seq,
+                                      size_t seq_words) {
+  size_t i;
+  for (i = 0; i < ZONEFS_MOUNT_WORDS; i++)
+    volume->mount[i] = 0;
+  volume->cnv = cnv;
+  volume->cnv_words = cnv_words;
+  volume->seq = seq;
+  volume->seq_words = seq_words;
+}
+
+/* MOUNTED, or refused by 20 to 30. The options are a C string, "" for none. */
+static inline struct zonefs_volume_answer zonefs_volume_mount(struct zonefs_volume *volume, uint64_t block,
+                                                              const void *superblock, size_t superblock_bytes,
+                                                              const char *options, const void *report, size_t report_bytes) {
+  uint64_t words[ZONEFS_ANSWER_WORDS] = {0};
+  uint64_t number =
+      zonefs_mount(block, (const uint8_t *)superblock, superblock_bytes, (const uint8_t *)options,
+                   zonefs_volume_text_bytes(options), (const uint8_t *)report, report_bytes, ZONEFS_VOLUME_TABLES,
+                   ZONEFS_VOLUME_WORDS, words, ZONEFS_ANSWER_WORDS);
+  return zonefs_volume_answer_of_mount(number, words);
+}
+
+/* FOUND, or refused by 1, 10. The name is a C string such as "seq/12". */
+static inline struct zonefs_volume_answer zonefs_volume_find(const struct zonefs_volume *volume, const char *name) {
+  uint64_t words[ZONEFS_ANSWER_WORDS] = {0};
+  uint64_t number =
+      zonefs_find(ZONEFS_VOLUME_LENT, (const uint8_t *)name, zonefs_volume_text_bytes(name), words, ZONEFS_ANSWER_WORDS);
+  return zonefs_volume_answer_of_find(number, words);
+}
+
+/* SHOWN, or refused by 1, 10. */
+static inline struct zonefs_volume_answer zonefs_volume_show(const struct zonefs_volume *volume, uint32_t kind,
+                                                             uint32_t number) {
+  uint64_t words[ZONEFS_ANSWER_WORDS] = {0};
+  uint64_t answered = zonefs_show(ZONEFS_VOLUME_LENT, kind, number, words, ZONEFS_ANSWER_WORDS);
+  return zonefs_volume_answer_of_show(answered, words);
+}
+
+/* The calls: DONE, COMMAND, or refused by 1 to 6, 10. */
+static inline struct zonefs_volume_answer zonefs_volume_read(struct zonefs_volume *volume, uint32_t kind, uint32_t number,
+                                                             uint64_t offset, uint64_t length) {
+  uint64_t words[ZONEFS_ANSWER_WORDS] = {0};
+  uint64_t answered = zonefs_read(ZONEFS_VOLUME_LENT, kind, number, offset, length, words, ZONEFS_ANSWER_WORDS);
+  return zonefs_volume_answer_of_call(answered, words);
+}
+
+static inline struct zonefs_volume_answer zonefs_volume_write(struct zonefs_volume *volume, uint32_t kind, uint32_t number,
+                                                              uint64_t offset, uint64_t length) {
+  uint64_t words[ZONEFS_ANSWER_WORDS] = {0};
+  uint64_t answered = zonefs_write(ZONEFS_VOLUME_LENT, kind, number, offset, length, words, ZONEFS_ANSWER_WORDS);
+  return zonefs_volume_answer_of_call(answered, words);
+}
+
+static inline struct zonefs_volume_answer zonefs_volume_truncate(struct zonefs_volume *volume, uint32_t kind,
+                                                                 uint32_t number, uint64_t size) {
+  uint64_t words[ZONEFS_ANSWER_WORDS] = {0};
+  uint64_t answered = zonefs_truncate(ZONEFS_VOLUME_LENT, kind, number, size, words, ZONEFS_ANSWER_WORDS);
+  return zonefs_volume_answer_of_call(answered, words);
+}
+
+static inline struct zonefs_volume_answer zonefs_volume_flush(struct zonefs_volume *volume, uint32_t kind, uint32_t number) {
+  uint64_t words[ZONEFS_ANSWER_WORDS] = {0};
+  uint64_t answered = zonefs_flush(ZONEFS_VOLUME_LENT, kind, number, words, ZONEFS_ANSWER_WORDS);
+  return zonefs_volume_answer_of_call(answered, words);
+}
+
+/* The outstanding command was done, all of it: DONE, or refused by 8, 10. */
+static inline struct zonefs_volume_answer zonefs_volume_complete(struct zonefs_volume *volume) {
+  uint64_t words[ZONEFS_ANSWER_WORDS] = {0};
+  uint64_t number = zonefs_complete(ZONEFS_VOLUME_LENT, words, ZONEFS_ANSWER_WORDS);
+  return zonefs_volume_answer_of_call(number, words);
+}
+
+/*
+ * The outstanding command failed: FAILED, or refused by 8, 9, 10. The record is that of the zone at the command's address, as it is after
+ * the failure: a struct blk_zone, or any 64 bytes laid out like it; capacity_given is the flags of the report that it came with.
+ */
+static inline struct zonefs_volume_answer zonefs_volume_fail(struct zonefs_volume *volume, const void *record,
+                                                             size_t record_bytes, uint32_t capacity_given) {
+  uint64_t words[ZONEFS_ANSWER_WORDS] = {0};
+  uint64_t number = zonefs_fail(ZONEFS_VOLUME_LENT, (const uint8_t *)record, record_bytes, capacity_given, words,
+                                ZONEFS_ANSWER_WORDS);
+  return zonefs_volume_answer_of_call(number, words);
+}
+
+#undef ZONEFS_VOLUME_TABLE
+#undef ZONEFS_VOLUME_TABLES
+#undef ZONEFS_VOLUME_WORDS
+#undef ZONEFS_VOLUME_LENT
+
+#ifdef __cplusplus
+}
+#endif
+
+#endif

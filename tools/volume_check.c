@@ -1,0 +1,348 @@
+/*
+ * Compares the functions of zonefs_volume.h with the plain ones of zonefs.h, call by call, on a small volume: every number that the library
+ * has, each command, and answers at once. Of each answer all fields are compared, and all words and rows that both leave. Words of answers
+ * are counted out here, not named, so that a wrong name in the header shows. C99 and C++11. Ends with status 1 at the first difference.
+ */
+#include <stdio.h>
+#include <stdlib.h>
+#include <string.h>
+
+#include "zonefs_volume.h"
+
+#define BLOCK 4096u
+#define LENGTH 1024u  /* sectors of each zone */
+#define CAPACITY 768u /* sectors of each sequential zone */
+#define CNV_WORDS 10u /* two files */
+#define SEQ_WORDS 15u /* three files, so that the tables cannot be taken for one another */
+#define BYTES(sectors) ((uint64_t)(sectors) * 512u)
+
+#ifdef __cplusplus
+#define LANGUAGE "C++"
+#else
+#define LANGUAGE "C"
+#endif
+
+/* the same volume twice: as the plain functions have it, and as a struct */
+static uint64_t mount_words[16], cnv[CNV_WORDS], seq[SEQ_WORDS], words[7];
+static uint64_t volume_cnv[CNV_WORDS], volume_seq[SEQ_WORDS];
+static size_t cnv_words, seq_words;
+static struct zonefs_volume volume;
+
+static uint8_t super_block[4096], report[16 + 6 * 64], record[65];
+static unsigned compared, seen[31], at_once, commands[5];
+
+/* ---- the disk's bytes */
+
+static void put(uint8_t *bytes, uint64_t value, unsigned count) {
+  unsigned i;
+  for (i = 0; i < count; i++)
+    bytes[i] = (uint8_t)(value >> (8 * i));
+}
+
+static void sign(void) {
+  put(super_block + 4, 0, 4);
+  put(super_block + 4, zonefs_checksum(super_block, 4096), 4);
+}
+
+static void make_super_block(void) {
+  memset(super_block, 0, sizeof(super_block));
+  put(super_block, 0x5A4F4653u, 4);
+  sign();
+}
+
+static void make_zone(uint8_t *bytes, unsigned zone, unsigned type, unsigned condition, unsigned capacity, unsigned written) {
+  memset(bytes, 0, 64);
+  put(bytes, (uint64_t)zone * LENGTH, 8);
+  put(bytes + 8, LENGTH, 8);
+  put(bytes + 16, (uint64_t)zone * LENGTH + written, 8);
+  bytes[24] = (uint8_t)type;
+  bytes[25] = (uint8_t)condition;
+  put(bytes + 32, capacity, 8);
+}
+
+/* three conventional zones, then sequential ones: a block written, empty, empty */
+static void make_report(void) {
+  unsigned zone;
+  memset(report, 0, sizeof(report));
+  put(report + 8, 6, 4);
+  put(report + 12, 1, 4);
+  for (zone = 0; zone < 3; zone++)
+    make_zone(report + 16 + zone * 64, zone, 1, 0, LENGTH, 0);
+  for (zone = 3; zone < 6; zone++)
+    make_zone(report + 16 + zone * 64, zone, 2, zone == 3 ? 2 : 1, CAPACITY, zone == 3 ? 8 : 0);
+}
+
+/* ---- the comparison */
+
+static void need(int holds, const char *what, const char *which) {
+  if (!holds) {
+    printf("volume_check: %s: %s\n", what, which);
+    exit(1);
+  }
+}
+
+static int same_words(const uint64_t *a, const uint64_t *b, size_t count) {
+  return memcmp(a, b, count * sizeof(*a)) == 0;
+}
+
+enum function { MOUNT, FIND, SHOW, CALL, COMPLETION };
+
+static void put_shown(struct zonefs_volume_answer *a) {
+  a->outcome = ZONEFS_VOLUME_SHOWN;
+  a->start = words[1];
+  a->capacity = words[2];
+  a->size = words[3];
+  a->condition = (uint32_t)words[4];
+  a->access = (uint32_t)words[5];
+  a->mode = (uint32_t)words[6];
+}
+
+static void put_decided(struct zonefs_volume_answer *a) {
+  a->outcome = words[0] == 3 ? ZONEFS_VOLUME_COMMAND : ZONEFS_VOLUME_DONE;
+  a->count = words[0] == 1 ? words[1] : 0;
+  a->command = words[0] == 3 ? (uint32_t)words[1] : 0;
+  a->address = words[2];
+  a->length = words[3];
+}
+
+/* what the answer must be, by the plain function's number and words */
+static struct zonefs_volume_answer by_words(enum function f, uint64_t number) {
+  struct zonefs_volume_answer a;
+  memset(&a, 0, sizeof(a));
+  a.number = number;
+  a.outcome = number == 7 ? ZONEFS_VOLUME_FAILED : ZONEFS_VOLUME_REFUSED;
+  a.size = number == 7 ? words[1] : 0;
+  a.zone = number == 29 ? (uint32_t)words[1] : 0;
+  if (number == 0 && f == MOUNT) {
+    a.outcome = ZONEFS_VOLUME_MOUNTED;
+    a.cnv_files = (uint32_t)words[1];
+    a.seq_files = (uint32_t)words[2];
+  } else if (number == 0 && f == FIND) {
+    a.outcome = ZONEFS_VOLUME_FOUND;
+    a.file_kind = (uint32_t)words[1];
+    a.file_number = (uint32_t)words[2];
+  } else if (number == 0 && f == SHOW) {
+    put_shown(&a);
+  } else if (number == 0) {
+    put_decided(&a);
+  }
+  return a;
+}
+
+/* both answers, and all that both left; and the number that is expected, so that the case is the one it is meant to be */
+static void compare(const char *what, enum function f, uint64_t number, struct zonefs_volume_answer got, uint64_t expected) {
+  struct zonefs_volume_answer a = by_words(f, number);
+  need(number == expected, what, "another number than expected");
+  need(got.number == a.number && got.outcome == a.outcome, what, "number or outcome");
+  need(got.count == a.count && got.size == a.size && got.zone == a.zone, what, "count, size or zone");
+  need(got.command == a.command && got.address == a.address && got.length == a.length, what, "the command");
+  need(got.cnv_files == a.cnv_files && got.seq_files == a.seq_files, what, "the numbers of files");
+  need(got.file_kind == a.file_kind && got.file_number == a.file_number, what, "the file found");
+  need(got.start == a.start && got.capacity == a.capacity, what, "start or capacity");
+  need(got.condition == a.condition && got.access == a.access && got.mode == a.mode, what, "condition, access or mode");
+  need(same_words(mount_words, volume.mount, 16), what, "the mount words");
+  need(same_words(cnv, volume_cnv, CNV_WORDS) && same_words(seq, volume_seq, SEQ_WORDS), what, "the tables");
+  compared++;
+  seen[number]++;
+  if (got.outcome == ZONEFS_VOLUME_COMMAND)
+    commands[got.command]++;
+  if (got.outcome == ZONEFS_VOLUME_DONE && f == CALL)
+    at_once++;
+}
+
+/* ---- each function both ways */
+
+#define PLAIN mount_words, 16, cnv, cnv_words, seq, seq_words
+
+static void lend(size_t cnv_room, size_t seq_room) {
+  cnv_words = cnv_room;
+  seq_words = seq_room;
+  volume.cnv_words = cnv_room;
+  volume.seq_words = seq_room;
+}
+
+static void mount_of(const char *what, uint64_t block, size_t super_bytes, const char *options, size_t bytes, uint64_t expected) {
+  uint64_t number = zonefs_mount(block, super_block, super_bytes, (const uint8_t *)options, strlen(options), report, bytes, cnv,
+                                 cnv_words, seq, seq_words, mount_words, 16, words, 7);
+  compare(what, MOUNT, number, zonefs_volume_mount(&volume, block, super_block, super_bytes, options, report, bytes), expected);
+}
+
+/* the mount of the bytes as they are made up now, which are then made anew */
+static void mount_as(const char *what, const char *options, uint64_t expected) {
+  mount_of(what, BLOCK, 4096, options, sizeof(report), expected);
+  make_super_block();
+  make_report();
+}
+
+static void find(const char *name, uint64_t expected) {
+  uint64_t number = zonefs_find(PLAIN, (const uint8_t *)name, strlen(name), words, 7);
+  compare(name, FIND, number, zonefs_volume_find(&volume, name), expected);
+}
+
+static void show(uint32_t kind, uint32_t file, uint64_t expected) {
+  uint64_t number = zonefs_show(PLAIN, kind, file, words, 7);
+  compare("show", SHOW, number, zonefs_volume_show(&volume, kind, file), expected);
+}
+
+static void read_of(uint32_t kind, uint32_t file, uint64_t offset, uint64_t length, uint64_t expected) {
+  uint64_t number = zonefs_read(PLAIN, kind, file, offset, length, words, 7);
+  compare("read", CALL, number, zonefs_volume_read(&volume, kind, file, offset, length), expected);
+}
+
+static void write_of(uint32_t kind, uint32_t file, uint64_t offset, uint64_t length, uint64_t expected) {
+  uint64_t number = zonefs_write(PLAIN, kind, file, offset, length, words, 7);
+  compare("write", CALL, number, zonefs_volume_write(&volume, kind, file, offset, length), expected);
+}
+
+static void truncate_of(uint32_t kind, uint32_t file, uint64_t size, uint64_t expected) {
+  uint64_t number = zonefs_truncate(PLAIN, kind, file, size, words, 7);
+  compare("truncate", CALL, number, zonefs_volume_truncate(&volume, kind, file, size), expected);
+}
+
+static void flush_of(uint32_t kind, uint32_t file, uint64_t expected) {
+  uint64_t number = zonefs_flush(PLAIN, kind, file, words, 7);
+  compare("flush", CALL, number, zonefs_volume_flush(&volume, kind, file), expected);
+}
+
+static void complete(uint64_t expected) {
+  uint64_t number = zonefs_complete(PLAIN, words, 7);
+  compare("complete", COMPLETION, number, zonefs_volume_complete(&volume), expected);
+}
+
+static void fail(size_t bytes, uint32_t given, uint64_t expected) {
+  uint64_t number = zonefs_fail(PLAIN, record, bytes, given, words, 7);
+  compare("fail", COMPLETION, number, zonefs_volume_fail(&volume, record, bytes, given), expected);
+}
+
+/* ---- the cases */
+
+/* 10 from all, 8 from completions: nothing is mounted */
+static void try_unmounted(void) {
+  find("seq/0", 10);
+  show(1, 0, 10);
+  read_of(1, 0, 0, 1, 10);
+  write_of(1, 0, 0, BLOCK, 10);
+  truncate_of(1, 0, 0, 10);
+  flush_of(1, 0, 10);
+  complete(8);
+  fail(64, 1, 8);
+}
+
+static void try_refused_mounts(void) {
+  mount_of("block", 1024, 4096, "", sizeof(report), 20);
+  mount_of("super block's length", BLOCK, 4095, "", sizeof(report), 21);
+  super_block[0] = 0;
+  mount_as("magic", "", 22);
+  super_block[4] ^= 1;
+  mount_as("checksum", "", 23);
+  super_block[88] = 16;
+  sign();
+  mount_as("features", "", 24);
+  super_block[88] = 2;
+  put(super_block + 96, 0xFFFFFFFFu, 4);
+  sign();
+  mount_as("owner", "", 25);
+  super_block[4095] = 1;
+  sign();
+  mount_as("tail", "", 26);
+  mount_as("options", "errors=none", 27);
+  mount_of("report's length", BLOCK, 4096, "", sizeof(report) - 1, 28);
+  report[16 + 4 * 64 + 24] = 0;
+  mount_as("bad zone", "", 29);
+  lend(CNV_WORDS, SEQ_WORDS - 1);
+  mount_as("too few rows", "", 30);
+  lend(CNV_WORDS, SEQ_WORDS);
+}
+
+static void try_calls(void) {
+  mount_as("mount", "errors=repair", 0);
+  find("seq/2", 0);
+  find("cnv/1", 0);
+  find("seq/02", 1);
+  show(0, 1, 0);
+  show(1, 0, 0);
+  show(1, 3, 1);
+  read_of(7, 0, 0, 1, 1);
+  read_of(1, 0, BLOCK, 1, 0);
+  read_of(1, 0, BYTES(CAPACITY), 1, 5);
+  write_of(1, 0, 0, BLOCK, 6);
+  write_of(1, 0, BLOCK, 0, 0);
+  truncate_of(0, 0, 0, 4);
+  truncate_of(1, 1, 0, 0);
+  read_of(0, 1, 5, 700, 0);
+  write_of(1, 0, BLOCK, BLOCK, 2);
+  complete(0);
+  write_of(1, 0, BLOCK, 2 * BLOCK, 0);
+  complete(0);
+  complete(8);
+  truncate_of(1, 0, BYTES(CAPACITY), 0);
+  complete(0);
+  truncate_of(1, 0, 0, 0);
+  complete(0);
+  flush_of(1, 0, 0);
+  complete(0);
+  show(1, 0, 0);
+}
+
+static void try_failures(void) {
+  mount_as("mount", "errors=remount-ro", 0);
+  write_of(1, 0, BLOCK, 2 * BLOCK, 0);
+  make_zone(record, 3, 2, 2, CAPACITY, 16);
+  fail(63, 1, 9);
+  fail(65, 1, 9);
+  fail(64, 0, 9); /* then the capacity is the length, which is not the row's */
+  lend(CNV_WORDS, SEQ_WORDS - 1);
+  complete(10);
+  fail(64, 1, 10);
+  read_of(1, 0, 0, 1, 10);
+  lend(CNV_WORDS - 1, SEQ_WORDS);
+  find("seq/0", 10);
+  show(1, 0, 10);
+  lend(CNV_WORDS, SEQ_WORDS);
+  fail(64, 1, 7);
+  fail(64, 1, 8);
+  show(1, 0, 0);
+  write_of(1, 0, 2 * BLOCK, BLOCK, 3);
+  read_of(1, 0, 0, BLOCK, 0);
+  make_zone(record, 3, 2, 15, CAPACITY, 0);
+  fail(64, 1, 7);
+  show(1, 0, 0);
+  read_of(1, 0, 0, 1, 4);
+}
+
+/* each number was seen and has a text of its own; 11 is none, and stands here for those that the library doesn't have */
+static void check_numbers(void) {
+  const char *none = zonefs_volume_refusal_text(11);
+  unsigned i, j;
+  for (i = 0; i <= 30; i++) {
+    const char *text = zonefs_volume_refusal_text(i);
+    int known = i <= 10 || i >= 20;
+    need((seen[i] > 0) == known, "numbers", "one of them was not seen");
+    need((strcmp(text, none) != 0) == known, "texts", "a number has none");
+    for (j = 0; known && j < i; j++)
+      need(strcmp(text, zonefs_volume_refusal_text(j)) != 0, "texts", "two numbers have the same");
+  }
+  for (i = 0; i < 5; i++)
+    need(commands[i] > 0, "commands", "one of them was not seen");
+  need(at_once > 0, "at once", "was not seen");
+}
+
+int main(void) {
+  make_super_block();
+  make_report();
+  make_zone(record, 3, 2, 2, CAPACITY, 8);
+
+  /* a struct of zeros has no rows, and null pointers; beside it the plain functions are lent no words */
+  try_unmounted();
+  mount_as("nothing lent", "", 30);
+
+  zonefs_volume_lend(&volume, volume_cnv, CNV_WORDS, volume_seq, SEQ_WORDS);
+  lend(CNV_WORDS, SEQ_WORDS);
+  try_unmounted();
+  try_refused_mounts();
+  try_calls();
+  try_failures();
+  check_numbers();
+  printf("volume in " LANGUAGE ": %u answers, as the plain functions give them\n", compared);
+  return 0;
+}
