@@ -73,8 +73,14 @@ impl Tally {
         missing
     }
 
-    /// One line: `MO 0=12 20=3; RD R=5 ..`.
-    pub fn summary(&self) -> String {
+    /// How often an answer came; all answers of a mark for None.
+    pub fn count(&self, mark: &str, answer: Option<&str>) -> u64 {
+        let wanted = |key: &(String, String)| key.0 == mark && answer.is_none_or(|answer| answer == key.1);
+        self.answers.iter().filter(|(key, _)| wanted(key)).map(|(_, count)| count).sum()
+    }
+
+    /// `MO 0=12 20=3; RD R=5 ..`.
+    fn answers_text(&self) -> String {
         let mut answers = String::new();
         let mut last = "";
         for ((mark, answer), count) in &self.answers {
@@ -85,6 +91,20 @@ impl Tally {
             }
             answers.push_str(&format!(" {answer}={count}"));
         }
+        answers
+    }
+
+    /// One line on a single tape.
+    pub fn tape_summary(&self, bytes: usize) -> String {
+        let calls: u64 = ["RD", "WR", "TR", "FL"].iter().map(|mark| self.count(mark, None)).sum();
+        let (good, failed) = (self.count("OK", None), self.count("NO", None));
+        let answers = self.answers_text();
+        format!("{calls} calls, {good} completions good and {failed} failed, {bytes} bytes ({answers})")
+    }
+
+    /// One line on a comparison.
+    pub fn summary(&self) -> String {
+        let answers = self.answers_text();
         let [first, second, third] = self.exceptions;
         format!(
             "{} tapes, {} lines alike ({answers}), nonzero exits {}; fresh mounts {}, rows {}, exceptions {first}/{second}/{third}",

@@ -12,9 +12,9 @@ pub fn any_call(random: &mut Random) -> CallRecord {
     CallRecord { verb: random.pick(&VERBS), kind: random.below(2) as u8, number: 0, offset, length }
 }
 
-/// A call on one of the volume's files, mostly.
-pub fn call(random: &mut Random, volume: &Volume) -> CallRecord {
-    let (kind, number, row) = lively_file(random, volume);
+/// A call on one of the volume's files, mostly; the file `busy` of each kind and its next two get most calls.
+pub fn call(random: &mut Random, volume: &Volume, busy: u64) -> CallRecord {
+    let (kind, number, row) = lively_file(random, volume, busy);
     // A read-only mount refuses all but reads before it looks at them.
     let weights = if volume.mount.read_only { [76, 10, 7, 7] } else { [24, 42, 20, 14] };
     let verb = VERBS[random.weighted(&weights)];
@@ -29,15 +29,15 @@ pub fn call(random: &mut Random, volume: &Volume) -> CallRecord {
 }
 
 /// Looks a few times for a file that can be used at all; calls on the others are answered 4 and nothing else.
-fn lively_file(random: &mut Random, volume: &Volume) -> (u8, u32, Row) {
-    let mut chosen = file(random, volume);
+fn lively_file(random: &mut Random, volume: &Volume, busy: u64) -> (u8, u32, Row) {
+    let mut chosen = file(random, volume, busy);
     for _ in 0..3 {
         let access = row_of(volume, chosen).map_or(Access::Write, |row| row.access);
         let wanted = if random.percent(70) { Access::Write } else { Access::Read };
         if access >= wanted || random.percent(10) {
             break;
         }
-        chosen = file(random, volume);
+        chosen = file(random, volume, busy);
     }
     let row = row_of(volume, chosen).unwrap_or(NO_FILE);
     (chosen.0, chosen.1, row)
@@ -53,8 +53,8 @@ fn row_of(volume: &Volume, (kind, number): (u8, u32)) -> Option<Row> {
     (row.capacity != 0).then_some(row)
 }
 
-/// Kind byte and number. The first files get most of the calls, so that much happens to each of them.
-fn file(random: &mut Random, volume: &Volume) -> (u8, u32) {
+/// Kind byte and number. Few files get most of the calls, so that much happens to each of them.
+fn file(random: &mut Random, volume: &Volume, busy: u64) -> (u8, u32) {
     if random.percent(2) {
         return (random.pick(&[2, 3, 128, 255]), random.below(3) as u32);
     }
@@ -64,7 +64,7 @@ fn file(random: &mut Random, volume: &Volume) -> (u8, u32) {
     let kind = if counts[preferred] == 0 && random.percent(97) { 1 - preferred } else { preferred };
     let count = counts[kind];
     let number = match random.weighted(&[70, 24, 3, 3]) {
-        0 => random.below(count.min(3)),
+        0 => (busy + random.below(count.min(3))) % count.max(1),
         1 => random.below(count),
         2 => count + random.below(2),
         _ => random.pick(&[1021, 1022, 1023, 65_536, u64::from(u32::MAX)]),

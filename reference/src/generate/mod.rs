@@ -3,9 +3,12 @@
 
 mod broken;
 mod calls;
+mod long;
 mod refused;
 mod runs;
 mod shape;
+
+pub use long::{long, MAX_PAD};
 
 use crate::random::Random;
 use crate::tally::Tally;

@@ -26,15 +26,31 @@ pub fn truthful(random: &mut Random) -> Generated {
     Generated { bytes: tape, check: check.map(|run| run.tally) }
 }
 
-/// How a run goes, in percent.
-struct Temper {
-    failures: u64,
-    mishaps: u64,
+/// Chances in percent that a command fails, and that a mishap comes between two entries.
+pub const FAILURES: [u64; 4] = [3, 10, 25, 50];
+pub const MISHAPS: [u64; 4] = [0, 4, 10, 25];
+
+/// How a run goes.
+pub struct Course {
+    /// In percent.
+    pub failures: u64,
+    pub mishaps: u64,
+    /// The file of each kind that most calls go to, with the two after it; and the zone of most mishaps.
+    pub busy: u64,
+    /// Whether a zone may become read-only or offline.
+    pub worsening: bool,
+}
+
+impl Course {
+    pub fn any(random: &mut Random) -> Course {
+        let (failures, mishaps) = (random.pick(&FAILURES), random.pick(&MISHAPS));
+        Course { failures, mishaps, busy: 0, worsening: true }
+    }
 }
 
 fn drive(random: &mut Random, shape: &Shape, input: &Input, tape: &mut Vec<u8>) -> Result<Run, String> {
     let mut run = Run::begin(input)?;
-    let temper = Temper { failures: random.pick(&[3, 10, 25, 50]), mishaps: random.pick(&[0, 4, 10, 25]) };
+    let course = Course::any(random);
     let steps = match shape.zones.len() {
         // No file, so nothing can happen.
         1 => 8,
@@ -43,46 +59,58 @@ fn drive(random: &mut Random, shape: &Shape, input: &Input, tape: &mut Vec<u8>) 
         _ => random.pick(&[20, 60, 120, 200]),
     };
     for _ in 0..steps {
-        if random.percent(temper.mishaps) {
-            let zone = mishap_zone(random, &run);
-            run.mishap(zone, mishap(random))?;
-        } else if run.volume.mount.held.is_some() && !random.percent(15) {
-            doing(random, &mut run, &temper, tape)?;
-        } else if random.percent(5) {
-            stray_completion(random, &mut run, tape)?;
-        } else {
-            let record = call(random, &run.volume);
-            encode(&Record::Call(record), tape);
-            // A kind that no file has is no call of a run; it changes nothing.
-            if let Some(call) = record.call() {
-                run.call(&call)?;
-            }
-        }
+        step(random, &mut run, &course, tape)?;
     }
     Ok(run)
 }
 
-/// Mostly a zone of the outstanding command or one of the first, where the calls go.
-fn mishap_zone(random: &mut Random, run: &Run) -> usize {
+/// One entry of a run; gives whether it was a call.
+pub fn step(random: &mut Random, run: &mut Run, course: &Course, tape: &mut Vec<u8>) -> Result<bool, String> {
+    if random.percent(course.mishaps) {
+        let zone = mishap_zone(random, run, course);
+        run.mishap(zone, mishap(random, course))?;
+    } else if run.volume.mount.held.is_some() && !random.percent(15) {
+        doing(random, run, course, tape)?;
+    } else if random.percent(5) {
+        stray_completion(random, run, tape)?;
+    } else {
+        let record = call(random, &run.volume, course.busy);
+        encode(&Record::Call(record), tape);
+        // A kind that no file has is no call of a run; it changes nothing.
+        if let Some(call) = record.call() {
+            run.call(&call)?;
+        }
+        return Ok(true);
+    }
+    Ok(false)
+}
+
+/// Mostly a zone of the outstanding command or one of those where the calls go.
+fn mishap_zone(random: &mut Random, run: &Run, course: &Course) -> usize {
     let zones = run.disk.zones.len() as u64;
     match run.volume.mount.held {
         Some(held) if random.percent(60) => run.disk.zone_at(held.command.address),
-        _ if random.percent(60) => random.below(zones.min(5)) as usize,
+        _ if random.percent(60) => ((course.busy + random.below(zones.min(5))) % zones) as usize,
         _ => random.below(zones) as usize,
     }
 }
 
-fn mishap(random: &mut Random) -> Mishap {
-    match random.weighted(&[40, 20, 10, 20, 10]) {
+fn mishap(random: &mut Random, course: &Course) -> Mishap {
+    let mishap = match random.weighted(&[40, 20, 10, 20, 10]) {
         0 => Mishap::Fall { blocks: 1 },
         1 => Mishap::Fall { blocks: random.between(0, 8) },
         2 => Mishap::Fall { blocks: u64::MAX },
         3 => Mishap::BecomesReadOnly,
         _ => Mishap::BecomesOffline,
+    };
+    match mishap {
+        Mishap::BecomesReadOnly | Mishap::BecomesOffline if !course.worsening => Mishap::Fall { blocks: 1 },
+        mishap => mishap,
     }
 }
 
-fn doing(random: &mut Random, run: &mut Run, temper: &Temper, tape: &mut Vec<u8>) -> Result<(), String> {
+/// The outstanding command is done, if there is one, and its completion digested.
+pub fn doing(random: &mut Random, run: &mut Run, course: &Course, tape: &mut Vec<u8>) -> Result<(), String> {
     let Some(held) = run.volume.mount.held else { return Ok(()) };
     let blocks = held.command.length / run.volume.mount.block;
     let landed_blocks = match random.below(3) {
@@ -90,8 +118,8 @@ fn doing(random: &mut Random, run: &mut Run, temper: &Temper, tape: &mut Vec<u8>
         1 => blocks,
         _ => random.below(blocks + 1),
     };
-    let mishap = random.percent(30).then(|| mishap(random));
-    let choice = Choice { fail: random.percent(temper.failures), landed_blocks, mishap };
+    let mishap = random.percent(30).then(|| mishap(random, course));
+    let choice = Choice { fail: random.percent(course.failures), landed_blocks, mishap };
     let completion = run.doing(&choice, |zone| truthful_record(random, zone))?;
     match completion {
         Some(None) => encode(&Record::Good, tape),
@@ -152,7 +180,7 @@ fn wild_step(random: &mut Random, volume: &mut Volume, tape: &mut Vec<u8>) {
     let held = held.unwrap_or(NOTHING);
     let record = match random.weighted(&choices) {
         0 => {
-            let record = call(random, volume);
+            let record = call(random, volume, 0);
             encode(&Record::Call(record), tape);
             record.call().map(|call| volume.call(&call));
             return;

@@ -16,9 +16,14 @@ pub struct Shape {
 }
 
 pub fn shape(random: &mut Random) -> Shape {
+    with_zones(random, zone_count)
+}
+
+/// As many zones as `count` says.
+pub fn with_zones(random: &mut Random, count: impl Fn(&mut Random) -> u64) -> Shape {
     let block = random.pick(&[512, 4096]);
     let capacity_given = random.percent(70);
-    let count = zone_count(random);
+    let count = count(random);
     let zones = zones(random, u64::from(block) / SECTOR, count, capacity_given);
     Shape { block, capacity_given, zones, features: random.below(16), options: good_options(random) }
 }
