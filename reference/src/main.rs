@@ -1,17 +1,16 @@
 //! The command line of the reference player.
 
-mod sums;
-
 use std::fs;
 use std::io::{self, Read, Write};
 use std::path::Path;
 use std::process::ExitCode;
 
-use reference::compare::{compare_files, compare_generated};
-use reference::describe::describe;
-use reference::generate::{generate, long, MAX_PAD};
-use reference::play::play;
-use reference::tally::Tally;
+use reference::generator::{generate, long, MAX_PAD};
+use reference::player::play::play;
+use reference::program::compare::{compare_files, compare_generated};
+use reference::program::describe::describe;
+use reference::program::sums;
+use reference::program::tally::Tally;
 
 const HELP: &str = "\
 usage:
@@ -39,6 +38,7 @@ The exit status is 0 if all went well, 1 if something failed, 2 for a wrong comm
 
 /// A tape is made in memory.
 const MAX_CALLS: u64 = 10_000_000;
+const _: () = assert!(MAX_CALLS == 10_000_000 && MAX_PAD == 242, "the help states both");
 
 enum Problem {
     Usage(String),
@@ -84,13 +84,9 @@ fn run(arguments: &[String]) -> Result<(), Problem> {
         ["compare-files", player, _, ..] => print_line(&compare_files(player, &arguments[2..])?),
         ["checksum"] => print(&sums::of_lines(&read_input("-")?)?),
         ["checksum", "--binary"] => print(&sums::of_records(&read_input("-")?)?),
-        ["checksum-inputs", seed, count] => {
-            let inputs = sums::inputs(number("SEED", seed)?, number("COUNT", count)?);
-            write_out(&sums::as_lines(&inputs))
-        }
+        ["checksum-inputs", seed, count] => write_out(&sums::as_lines(&sum_inputs(seed, count)?)),
         ["checksum-inputs", "--binary", seed, count] => {
-            let inputs = sums::inputs(number("SEED", seed)?, number("COUNT", count)?);
-            write_out(&sums::as_records(&inputs))
+            write_out(&sums::as_records(&sum_inputs(seed, count)?))
         }
         [] => Err(Problem::Usage("a command is needed".to_string())),
         [command, ..] => {
@@ -118,6 +114,10 @@ fn describe_tape(file: &str) -> Result<(), Problem> {
     let tape = read_input(file)?;
     let text: String = describe(&tape).into_iter().map(|record| record.text + "\n").collect();
     print(&text)
+}
+
+fn sum_inputs(seed: &str, count: &str) -> Result<Vec<Vec<u8>>, Problem> {
+    Ok(sums::inputs(number("SEED", seed)?, number("COUNT", count)?))
 }
 
 fn compare(seed: &str, count: &str, player: &str, keep: Option<&Path>) -> Result<(), Problem> {

@@ -1,10 +1,10 @@
 //! The generator: the same tapes for the same seed, other ones for another, and a check that holds.
 
-use crate::generate::{generate, long, MAX_PAD};
-use crate::play::play;
-use crate::random::Random;
-use crate::tally::Tally;
-use crate::tape::{Next, Reader, Record};
+use crate::generator::random::Random;
+use crate::generator::{generate, long, MAX_PAD};
+use crate::player::play::play;
+use crate::player::tape::{Next, Reader, Record};
+use crate::program::tally::Tally;
 
 fn calls_on(tape: &[u8]) -> usize {
     let mut reader = Reader::new(tape);
@@ -38,10 +38,10 @@ fn the_check_holds_and_sees_much() {
     let mut tally = Tally::default();
     for index in 1..=150 {
         let generated = generate(1, index);
-        tally.add(&generated.check.unwrap());
+        tally.compared.add(&generated.check.unwrap());
         play(&generated.bytes).iter().for_each(|line| tally.count_line(&line.text));
     }
-    assert!(tally.exceptions.iter().all(|&count| count > 0), "{}", tally.summary());
+    assert!(tally.compared.exceptions.iter().all(|&count| count > 0), "{}", tally.summary());
     assert!(tally.missing().len() < 5, "{:?}", tally.missing());
 }
 

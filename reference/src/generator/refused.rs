@@ -1,13 +1,14 @@
 //! Mounts with faults: one for each refusal number, often several at once, so that the order shows.
 
 use super::calls::any_call;
+use super::random::Random;
+use super::records::{encode, head};
 use super::shape::{self, put, stamp};
-use crate::mount::Input;
-use crate::random::Random;
-use crate::superblock;
-use crate::tape::{encode, Record};
-use crate::types::{DISK_LIMIT, SECTOR};
-use crate::zone::{self, Zone, HEADER, RECORD};
+use crate::player::mount::Input;
+use crate::player::superblock;
+use crate::player::tape::Record;
+use crate::player::types::{DISK_LIMIT, SECTOR};
+use crate::player::zone::{self, Zone, HEADER};
 
 /// A tape with a refused mount. What follows the mount must not be looked at.
 pub fn tape(random: &mut Random) -> Vec<u8> {
@@ -31,15 +32,6 @@ pub fn tape(random: &mut Random) -> Vec<u8> {
     if random.percent(30) {
         tape.extend_from_slice(b"xx");
     }
-    tape
-}
-
-pub fn head(input: &Input) -> Vec<u8> {
-    let mut tape = Vec::new();
-    encode(&Record::Block(input.block), &mut tape);
-    encode(&Record::SuperBlock(&input.super_block), &mut tape);
-    encode(&Record::Report(&input.report), &mut tape);
-    encode(&Record::Options(&input.options), &mut tape);
     tape
 }
 
@@ -84,7 +76,7 @@ fn spoil_checksum(random: &mut Random, bytes: &mut [u8]) {
         0 => !right,
         1 => right ^ (1 << random.below(32)),
         // Taken with its own field in place.
-        2 => crate::checksum::checksum(bytes),
+        2 => crate::player::checksum::checksum(bytes),
         _ => {
             bytes[at] ^= 1 << random.below(8);
             right
@@ -178,7 +170,7 @@ fn bad_options(random: &mut Random) -> Vec<u8> {
 }
 
 /// Puts one fault into one zone. Some faults are none for the zone they meet: a near miss is worth as much.
-fn spoil_zone(random: &mut Random, zones: &mut [Zone], step: u64) {
+pub fn spoil_zone(random: &mut Random, zones: &mut [Zone], step: u64) {
     let number = match random.below(4) {
         0 => 0,
         1 => zones.len() - 1,
@@ -254,16 +246,4 @@ fn spoil_pointer(random: &mut Random, zone: &mut Zone, step: u64) {
         5 => zone.start.wrapping_add(zone.length),
         _ => end,
     };
-}
-
-/// A record for a completion with one fault; `step` is the block in sectors.
-pub fn damage(random: &mut Random, zone: &mut Zone, step: u64) {
-    spoil_zone(random, std::slice::from_mut(zone), step);
-}
-
-/// Any 64 bytes.
-pub fn noise_record(random: &mut Random) -> [u8; RECORD] {
-    let mut record = [0; RECORD];
-    random.fill(&mut record);
-    record
 }

@@ -1,8 +1,8 @@
 //! Mounting: checks 20 to 30, and the rows that the zones give.
 
-use crate::types::{Access, Condition, Mount, Refusal, Row, SECTOR};
-use crate::zone::Zone;
-use crate::{options, superblock, zone};
+use super::types::{Access, Condition, Mount, Refusal, Row, SECTOR};
+use super::zone::Zone;
+use super::{options, superblock, zone};
 
 /// The four inputs of a mount, as a tape carries them.
 #[derive(Clone, Debug, PartialEq, Eq)]

@@ -1,6 +1,6 @@
 //! Finding and showing files, and deciding reads, writes, truncations and flushes.
 
-use crate::types::{
+use super::types::{
     sum_within, Access, Command, Condition, FileKind, Held, Mount, Operation, Refusal, Row, Volume,
     DISK_LIMIT, MAX_FILES, SECTOR,
 };

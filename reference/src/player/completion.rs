@@ -1,11 +1,11 @@
 //! Digesting a completion: success, or failure with the zone's record.
 
-use crate::calls::{decide, Reply, Request};
-use crate::types::{
+use super::calls::{decide, Reply, Request};
+use super::types::{
     sum_within, Access, Command, Condition, FileKind, Held, Mount, Operation, Policy, Refusal, Row, Volume,
     SECTOR,
 };
-use crate::zone::{Zone, RECORD};
+use super::zone::{Zone, RECORD};
 
 impl Volume {
     /// The command was done: gives the count of a read or write, else 0.

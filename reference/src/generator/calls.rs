@@ -1,8 +1,8 @@
 //! Calls with arguments that matter: at the size, at the capacity, off the block, past every limit.
 
-use crate::random::Random;
-use crate::tape::{CallRecord, Verb};
-use crate::types::{Access, Condition, FileKind, Row, Volume};
+use super::random::Random;
+use crate::player::tape::{CallRecord, Verb};
+use crate::player::types::{Access, Condition, FileKind, Row, Volume};
 
 const VERBS: [Verb; 4] = [Verb::Read, Verb::Write, Verb::Truncate, Verb::Flush];
 

@@ -1,6 +1,6 @@
 //! Zone records and the zone report.
 
-use crate::types::{sum_within, u32_at, u64_at, Condition, Refusal, DISK_LIMIT, MAX_ZONES, SECTOR};
+use super::types::{sum_within, u32_at, u64_at, Condition, Refusal, DISK_LIMIT, MAX_ZONES, SECTOR};
 
 pub const HEADER: usize = 16;
 pub const RECORD: usize = 64;

@@ -1,6 +1,6 @@
 //! The mount options.
 
-use crate::types::{Policy, Refusal};
+use super::types::{Policy, Refusal};
 
 pub const MAX_LENGTH: usize = 255;
 

@@ -1,10 +1,10 @@
 //! Good mounts of many shapes.
 
-use crate::mount::Input;
-use crate::random::Random;
-use crate::types::{DISK_LIMIT, SECTOR};
-use crate::zone::{Zone, HEADER, RECORD};
-use crate::{superblock, zone};
+use super::random::Random;
+use crate::player::mount::Input;
+use crate::player::types::{DISK_LIMIT, SECTOR};
+use crate::player::zone::{Zone, HEADER, RECORD};
+use crate::player::{superblock, zone};
 
 /// The values of a good mount before they become bytes, so that a fault can be put into one of them.
 pub struct Shape {

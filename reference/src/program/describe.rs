@@ -1,9 +1,9 @@
 //! A tape as text, for people.
 
-use crate::superblock;
-use crate::tape::{Next, Reader, Record, Verb};
-use crate::types::{u32_at, u64_at};
-use crate::zone::{self, Zone};
+use crate::player::superblock;
+use crate::player::tape::{Next, Reader, Record, Verb};
+use crate::player::types::{u32_at, u64_at};
+use crate::player::zone::{self, Zone};
 
 /// The first zones of a report are listed, up to this many.
 const ZONES_SHOWN: usize = 24;

@@ -7,10 +7,10 @@ use std::process::{Command, Stdio};
 use std::sync::atomic::{AtomicU64, Ordering};
 use std::thread;
 
-use crate::describe::describe;
-use crate::generate::generate;
-use crate::play::{play, Line};
-use crate::tally::Tally;
+use super::describe::describe;
+use super::tally::Tally;
+use crate::generator::generate;
+use crate::player::play::{play, Line};
 
 /// Below this many tapes an answer that was never reached is no failure.
 const ENOUGH_TAPES: u64 = 1000;
@@ -81,7 +81,7 @@ fn run_worker(
 
 fn compare_index(seed: u64, index: u64, player: &str, file: &Path, tally: &mut Tally) -> Result<(), String> {
     let generated = generate(seed, index);
-    tally.add(&generated.check?);
+    tally.compared.add(&generated.check?);
     fs::write(file, &generated.bytes).map_err(|error| format!("{}: {error}", file.display()))?;
     compare_tape(&generated.bytes, file, player, tally)
 }

@@ -1,14 +1,35 @@
 //! The consistency check: a run of calls, mishaps and completions on a truthful disk, compared with a fresh
 //! mount whenever nothing is outstanding.
 
-use crate::calls::{Call, Reply};
-use crate::disk::{Choice, Disk, Mishap, Outcome};
-use crate::mount::Input;
-use crate::play::mount_volume;
-use crate::superblock;
-use crate::tally::Tally;
-use crate::types::{Access, Condition, FileKind, Held, Operation, Policy, Refusal, Row, Volume};
-use crate::zone::{self, Zone, HEADER, RECORD};
+use super::model::{Choice, Disk, Mishap, Outcome};
+use crate::player::calls::{Call, Reply};
+use crate::player::mount::Input;
+use crate::player::play::mount_volume;
+use crate::player::superblock;
+use crate::player::types::{Access, Condition, FileKind, Held, Operation, Policy, Refusal, Row, Volume};
+use crate::player::zone::{self, Zone, HEADER, RECORD};
+
+/// The check allows for so many exceptions.
+pub const EXCEPTIONS: usize = 3;
+
+/// What a check has compared.
+#[derive(Clone, Copy, Debug, Default, PartialEq, Eq)]
+pub struct Compared {
+    /// States with nothing outstanding, each with a fresh mount.
+    pub states: u64,
+    pub rows: u64,
+    pub exceptions: [u64; EXCEPTIONS],
+}
+
+impl Compared {
+    pub fn add(&mut self, other: &Compared) {
+        self.states += other.states;
+        self.rows += other.rows;
+        for (sum, count) in self.exceptions.iter_mut().zip(other.exceptions) {
+            *sum += count;
+        }
+    }
+}
 
 /// What has happened to one file, as far as the check needs it.
 #[derive(Clone, Copy, Debug)]
@@ -41,7 +62,7 @@ pub struct Run {
     seq: Vec<Story>,
     seq_zone: Vec<usize>,
     pub entries: Vec<Entry>,
-    pub tally: Tally,
+    pub compared: Compared,
 }
 
 impl Run {
@@ -68,7 +89,7 @@ impl Run {
             owner,
             seq_zone,
             entries: Vec::new(),
-            tally: Tally::default(),
+            compared: Compared::default(),
         };
         run.end_entry()?;
         Ok(run)
@@ -192,7 +213,7 @@ impl Run {
         if self.volume.mount.held.is_some() {
             return Ok(());
         }
-        self.tally.states += 1;
+        self.compared.states += 1;
         let fresh_input = Input { report: self.report_now(), ..self.input.clone() };
         let fresh = mount_volume(&fresh_input).map_err(|refusal| {
             self.complaint(&format!("the fresh mount is refused with {}", refusal.number()))
@@ -230,9 +251,9 @@ impl Run {
             let what = format!("seq/{number} is {row:?}, expected {expected:?}, fresh {fresh:?}, {story:?}");
             return Err(self.complaint(&what));
         }
-        self.tally.rows += 1;
+        self.compared.rows += 1;
         if let Some(which) = exception {
-            self.tally.exceptions[which - 1] += 1;
+            self.compared.exceptions[which - 1] += 1;
         }
         Ok(())
     }

@@ -1,7 +1,7 @@
 //! Inputs for the checksum, and their checksums, as text or as bytes.
 
-use reference::checksum::checksum;
-use reference::random::Random;
+use crate::generator::random::Random;
+use crate::player::checksum::checksum;
 
 /// Lengths that every list begins with: nothing, the first few, and a whole super block.
 const FIRST_LENGTHS: [u64; 8] = [0, 1, 2, 3, 4, 8, 255, 4096];

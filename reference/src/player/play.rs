@@ -1,9 +1,9 @@
 //! The player: one line for each record of a tape, from the mount on.
 
-use crate::calls::Reply;
-use crate::mount::{mount, Input};
-use crate::tape::{CallRecord, Next, Reader, Record};
-use crate::types::{Operation, Refusal, Row, Volume, MAX_FILES};
+use super::calls::Reply;
+use super::mount::{mount, Input};
+use super::tape::{CallRecord, Next, Reader, Record};
+use super::types::{Operation, Refusal, Row, Volume, MAX_FILES};
 
 /// A printed line, and where on the tape its record begins.
 #[derive(Clone, Debug, PartialEq, Eq)]
@@ -43,7 +43,7 @@ pub fn play(tape: &[u8]) -> Vec<Line> {
 
 /// The four records that a tape begins with, and where the last of them begins. None if one of them is
 /// broken, missing or out of place; `reader` may have passed over a misplaced one then.
-fn read_input(reader: &mut Reader) -> Option<(usize, Input)> {
+pub fn read_input(reader: &mut Reader) -> Option<(usize, Input)> {
     let Next::Record(Record::Block(block)) = reader.read() else { return None };
     let Next::Record(Record::SuperBlock(super_block)) = reader.read() else { return None };
     let Next::Record(Record::Report(report)) = reader.read() else { return None };

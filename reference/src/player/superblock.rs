@@ -1,7 +1,7 @@
 //! The first 4,096 bytes of the disk: layout, checksum and features.
 
-use crate::checksum::{update, START};
-use crate::types::{u32_at, u64_at, Refusal};
+use super::checksum::{update, START};
+use super::types::{u32_at, u64_at, Refusal};
 
 pub const LENGTH: usize = 4096;
 pub const MAGIC: u32 = 0x5A4F_4653;

@@ -1,8 +1,8 @@
-//! The records of a tape: how they are read and written.
+//! The records of a tape, and how they are read.
 
-use crate::calls::{Call, Request};
-use crate::types::{u32_at, u64_at, FileKind, MAX_ZONES};
-use crate::{superblock, zone};
+use super::calls::{Call, Request};
+use super::types::{u32_at, u64_at, FileKind, MAX_ZONES};
+use super::{superblock, zone};
 
 #[derive(Clone, Copy, Debug, PartialEq, Eq)]
 pub enum Verb {
@@ -41,14 +41,17 @@ impl CallRecord {
             1 => FileKind::Sequential,
             _ => return None,
         };
+        Some(Call { kind, number: self.number, request: self.request() })
+    }
+
+    pub fn request(&self) -> Request {
         let (offset, length) = (self.offset, self.length);
-        let request = match self.verb {
+        match self.verb {
             Verb::Read => Request::Read { offset, length },
             Verb::Write => Request::Write { offset, length },
             Verb::Truncate => Request::Truncate { size: length },
             Verb::Flush => Request::Flush,
-        };
-        Some(Call { kind, number: self.number, request })
+        }
     }
 }
 
@@ -139,24 +142,4 @@ fn decode_call(verb: Verb, body: &[u8]) -> Option<Record<'static>> {
     let (kind, number) = (body[0], u32_at(body, 1));
     let (offset, length) = (u64_at(body, 5), u64_at(body, 13));
     Some(Record::Call(CallRecord { verb, kind, number, offset, length }))
-}
-
-/// Appends a record, mark first.
-pub fn encode(record: &Record, tape: &mut Vec<u8>) {
-    let mut put = |mark: &str, parts: &[&[u8]]| {
-        tape.extend_from_slice(mark.as_bytes());
-        parts.iter().for_each(|part| tape.extend_from_slice(part));
-    };
-    match record {
-        Record::Block(block) => put("BK", &[&block.to_le_bytes()]),
-        Record::SuperBlock(bytes) => put("SB", &[bytes]),
-        Record::Report(bytes) => put("ZR", &[bytes]),
-        Record::Options(text) => put("MO", &[&[text.len() as u8], text]),
-        Record::Call(call) => {
-            let (number, offset) = (call.number.to_le_bytes(), call.offset.to_le_bytes());
-            put(call.verb.mark(), &[&[call.kind], &number, &offset, &call.length.to_le_bytes()]);
-        }
-        Record::Good => put("OK", &[]),
-        Record::Failed(bytes) => put("NO", &[bytes]),
-    }
 }

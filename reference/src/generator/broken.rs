@@ -1,11 +1,12 @@
 //! Tapes that break off, or whose records are unknown or out of place.
 
 use super::calls::any_call;
+use super::random::Random;
+use super::records::encode;
 use super::runs;
 use super::shape;
-use crate::random::Random;
-use crate::tape::{encode, Next, Reader, Record};
-use crate::zone;
+use crate::player::tape::{Next, Reader, Record};
+use crate::player::zone;
 
 /// A broken tape, or one that is just not broken.
 pub fn tape(random: &mut Random) -> Vec<u8> {

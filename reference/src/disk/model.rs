@@ -2,8 +2,8 @@
 
 use std::ops::RangeInclusive;
 
-use crate::types::{Command, Condition, Operation, SECTOR};
-use crate::zone::{Zone, EMPTY, FULL, IMPLICIT_OPEN, OFFLINE, READ_ONLY};
+use crate::player::types::{Command, Condition, Operation, SECTOR};
+use crate::player::zone::{Zone, EMPTY, FULL, IMPLICIT_OPEN, OFFLINE, READ_ONLY};
 
 #[derive(Clone, Copy, Debug, PartialEq, Eq)]
 pub enum Mishap {

@@ -1,13 +1,13 @@
 //! One long run against the model disk that stays lively to its end.
 
-use super::refused::head;
+use super::random::Random;
+use super::records::head;
 use super::runs::{doing, step, Course};
 use super::shape::{self, Shape};
-use crate::consistency::Run;
-use crate::mount::Input;
-use crate::options;
-use crate::random::Random;
-use crate::types::Condition;
+use crate::disk::consistency::Run;
+use crate::player::mount::Input;
+use crate::player::options;
+use crate::player::types::Condition;
 
 /// The only policy that leaves the mount and its healthy files writable after a failure.
 const OPTIONS: &[u8] = b"errors=repair";

@@ -2,6 +2,8 @@
 
 use std::collections::BTreeMap;
 
+use crate::disk::consistency::Compared;
+
 /// Every answer that a tape can show. It can't show 10 and 30 (its tables and mount are always possible
 /// and long enough), nor 21 (its super block always has its length).
 const EXPECTED: [(&str, &[&str]); 8] = [
@@ -15,9 +17,6 @@ const EXPECTED: [(&str, &[&str]); 8] = [
     ("??", &["40"]),
 ];
 
-/// The consistency check allows for so many exceptions.
-pub const EXCEPTIONS: usize = 3;
-
 #[derive(Clone, Debug, Default, PartialEq, Eq)]
 pub struct Tally {
     pub tapes: u64,
@@ -25,10 +24,8 @@ pub struct Tally {
     /// Tapes on which the player ended with another exit status than 0; the papers ask nothing of it.
     pub exits: u64,
     answers: BTreeMap<(String, String), u64>,
-    /// States with nothing outstanding in which a fresh mount was compared, and rows compared.
-    pub states: u64,
-    pub rows: u64,
-    pub exceptions: [u64; EXCEPTIONS],
+    /// What the consistency check saw while the tapes were made.
+    pub compared: Compared,
 }
 
 impl Tally {
@@ -47,11 +44,7 @@ impl Tally {
         self.tapes += other.tapes;
         self.lines += other.lines;
         self.exits += other.exits;
-        self.states += other.states;
-        self.rows += other.rows;
-        for (sum, count) in self.exceptions.iter_mut().zip(other.exceptions) {
-            *sum += count;
-        }
+        self.compared.add(&other.compared);
         for (key, count) in &other.answers {
             *self.answers.entry(key.clone()).or_default() += count;
         }
@@ -67,7 +60,7 @@ impl Tally {
                 missing.push(format!("{mark} {answer}"));
             }
         }
-        for (index, _) in self.exceptions.iter().enumerate().filter(|(_, &count)| count == 0) {
+        for (index, _) in self.compared.exceptions.iter().enumerate().filter(|(_, &count)| count == 0) {
             missing.push(format!("exception {} of the consistency check", index + 1));
         }
         missing
@@ -105,10 +98,10 @@ impl Tally {
     /// One line on a comparison.
     pub fn summary(&self) -> String {
         let answers = self.answers_text();
-        let [first, second, third] = self.exceptions;
+        let Compared { states, rows, exceptions: [first, second, third] } = self.compared;
         format!(
-            "{} tapes, {} lines alike ({answers}), nonzero exits {}; fresh mounts {}, rows {}, exceptions {first}/{second}/{third}",
-            self.tapes, self.lines, self.exits, self.states, self.rows
+            "{} tapes, {} lines alike ({answers}), nonzero exits {}; fresh mounts {states}, rows {rows}, exceptions {first}/{second}/{third}",
+            self.tapes, self.lines, self.exits
         )
     }
 }
