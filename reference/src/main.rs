@@ -17,9 +17,9 @@ usage:
   reference play [FILE]                        plays a tape (standard input without FILE or with -)
   reference describe [FILE]                    shows a tape as text
   reference generate SEED DIR COUNT            writes COUNT tapes of SEED into DIR
-  reference long SEED CALLS [PAD]              writes one tape with a long run of CALLS calls (at most
-                                               10000000) to standard output, and what is on it to standard
-                                               error; PAD bytes (0 to 242) that mean nothing shift all that
+  reference long SEED CALLS [PAD]              writes one tape with a long run of CALLS calls (0 to 1000000)
+                                               to standard output, and what is on it to standard error; PAD
+                                               bytes (0 to 242, else 0) that mean nothing shift all that
                                                follows the mount
   reference compare SEED COUNT PLAYER [KEEPDIR]
                                                compares PLAYER on COUNT tapes of SEED; a tape on which
@@ -37,8 +37,8 @@ The exit status is 0 if all went well, 1 if something failed, 2 for a wrong comm
 ";
 
 /// A tape is made in memory.
-const MAX_CALLS: u64 = 10_000_000;
-const _: () = assert!(MAX_CALLS == 10_000_000 && MAX_PAD == 242, "the help states both");
+const MAX_CALLS: u64 = 1_000_000;
+const _: () = assert!(MAX_CALLS == 1_000_000 && MAX_PAD == 242, "the help states both");
 
 enum Problem {
     Usage(String),

@@ -1,6 +1,8 @@
 //! The consistency check: a run of calls, mishaps and completions on a truthful disk, compared with a fresh
 //! mount whenever nothing is outstanding.
 
+use std::collections::VecDeque;
+
 use super::model::{Choice, Disk, Mishap, Outcome};
 use crate::player::calls::{Call, Reply};
 use crate::player::mount::Input;
@@ -9,6 +11,8 @@ use crate::player::superblock;
 use crate::player::types::{Access, Condition, FileKind, Held, Operation, Policy, Refusal, Row, Volume};
 use crate::player::zone::{self, Zone, HEADER, RECORD};
 
+/// A failed check shows so many entries of its run.
+const ENTRIES_SHOWN: usize = 40;
 /// The check allows for so many exceptions.
 pub const EXCEPTIONS: usize = 3;
 
@@ -61,7 +65,9 @@ pub struct Run {
     cnv: Vec<Story>,
     seq: Vec<Story>,
     seq_zone: Vec<usize>,
-    pub entries: Vec<Entry>,
+    /// How many entries there were, and the last of them.
+    entries: u64,
+    last_entries: VecDeque<Entry>,
     pub compared: Compared,
 }
 
@@ -88,7 +94,8 @@ impl Run {
             volume,
             owner,
             seq_zone,
-            entries: Vec::new(),
+            entries: 0,
+            last_entries: VecDeque::new(),
             compared: Compared::default(),
         };
         run.end_entry()?;
@@ -98,7 +105,7 @@ impl Run {
     pub fn call(&mut self, call: &Call) -> Result<(), String> {
         let before = self.volume.clone();
         let result = self.volume.call(call);
-        self.entries.push(Entry::Call(*call, result));
+        self.note(Entry::Call(*call, result));
         if result.is_err() && self.volume != before {
             return Err(self.complaint("a refused call moved something"));
         }
@@ -111,7 +118,7 @@ impl Run {
         if happened {
             self.disturb(zone);
         }
-        self.entries.push(Entry::Mishap { zone, mishap, happened });
+        self.note(Entry::Mishap { zone, mishap, happened });
         self.end_entry()
     }
 
@@ -122,7 +129,7 @@ impl Run {
             None => self.volume.succeed(),
             Some(record) => self.volume.fail(record, true),
         };
-        self.entries.push(Entry::IdleCompletion);
+        self.note(Entry::IdleCompletion);
         if answer != Err(Refusal::NothingOutstanding) {
             return Err(self.complaint(&format!("an idle completion is answered {answer:?}")));
         }
@@ -145,7 +152,7 @@ impl Run {
         if outcome.mishap {
             self.disturb(outcome.zone);
         }
-        self.entries.push(Entry::Doing { held, choice: *choice, outcome });
+        self.note(Entry::Doing { held, choice: *choice, outcome });
         let record = outcome.failed.then(|| encode(&self.disk.zones[outcome.zone]));
         let before = self.volume.clone();
         let answer = match &record {
@@ -160,6 +167,14 @@ impl Run {
         self.note_completion(&held, &outcome);
         self.end_entry()?;
         Ok(Some(record))
+    }
+
+    fn note(&mut self, entry: Entry) {
+        self.entries += 1;
+        self.last_entries.push_back(entry);
+        if self.last_entries.len() > ENTRIES_SHOWN {
+            self.last_entries.pop_front();
+        }
     }
 
     /// The file of the outstanding command is quiet again, unless all that was seen is a good read.
@@ -268,8 +283,8 @@ impl Run {
         for (number, zone) in zones.iter().enumerate().take(16) {
             text.push_str(&format!("\n  zone {number} at mount: {zone:?}"));
         }
-        let skipped = self.entries.len().saturating_sub(40);
-        for (number, entry) in self.entries.iter().enumerate().skip(skipped) {
+        let skipped = self.entries - self.last_entries.len() as u64;
+        for (number, entry) in (skipped..).zip(&self.last_entries) {
             text.push_str(&format!("\n  entry {number}: {entry:?}"));
         }
         text
