@@ -31,8 +31,6 @@ macro_rules! refusals {
 
             /// The refusal of a number, with its value from the answer words; `None` for a number that is none's.
             pub const fn from_answer(number: u64, answer: &[u64; ANSWER_WORDS]) -> Option<Refusal> {
-                // Most refusals have no value, and then the words are not looked at.
-                let _ = answer;
                 match number {
                     $($number => Some(Refusal::$case $({ $value: answer[$at] })?),)*
                     _ => None,
