@@ -1,12 +1,13 @@
 //! The pace of the proved library beside ordinary Rust programs that do the same, measured in one run.
 //! A pace is the other's time divided by the library's: 1 is as fast, 2 twice as fast, 0.5 half as fast.
 
-use linked::{ANSWER_WORDS, MOUNT_WORDS, ROW_WORDS};
-use reference::calls::{Call, Request};
-use reference::mount::Input;
-use reference::types::{FileKind, Row, Volume, MAX_FILES};
 use std::hint::black_box;
 use std::time::Duration;
+
+use reference::player::calls::{Call, Request};
+use reference::player::mount::{mount, Input};
+use reference::player::types::{FileKind, Row, Volume, MAX_FILES};
+use zonefs::words::{self, ANSWER_WORDS, MOUNT_WORDS, ROW_WORDS};
 
 /// Rounds; each measures all programs once, one after the other, and the median is what counts.
 const ROUNDS: usize = 15;
@@ -81,7 +82,7 @@ impl Lent {
 
     fn mount(&mut self, input: &Input) -> u64 {
         let Lent { mount, cnv, seq, answer } = self;
-        linked::mount(
+        words::mount(
             u64::from(input.block),
             &input.super_block,
             &input.options,
@@ -95,15 +96,14 @@ impl Lent {
 
     fn append(&mut self, offset: u64) -> u64 {
         let Lent { mount, cnv, seq, answer } = self;
-        linked::write(mount, cnv, seq, 1, 7, offset, BLOCK, answer)
-            + linked::complete(mount, cnv, seq, answer)
+        words::write(mount, cnv, seq, 1, 7, offset, BLOCK, answer) + words::complete(mount, cnv, seq, answer)
     }
 }
 
 fn volume(input: &Input) -> Volume {
     let mut cnv = vec![Row::EMPTY; MAX_FILES];
     let mut seq = vec![Row::EMPTY; MAX_FILES];
-    let mount = reference::mount::mount(input, &mut cnv, &mut seq).expect("a good volume");
+    let mount = mount(input, &mut cnv, &mut seq).expect("a good volume");
     Volume { mount, cnv, seq }
 }
 
@@ -166,16 +166,16 @@ fn line(what: &str, library: f64, other: f64, target: &str) {
 fn checksums() -> (f64, f64) {
     const TURNS: u64 = 2_000;
     let block: Vec<u8> = (0..4096_u32).map(|i| (i.wrapping_mul(2_654_435_761) >> 24) as u8).collect();
-    assert_eq!(linked::checksum(&block), bytewise(&block));
-    assert_eq!(linked::checksum(&block), reference::checksum::checksum(&block));
+    assert_eq!(words::checksum(&block), bytewise(&block));
+    assert_eq!(words::checksum(&block), reference::player::checksum::checksum(&block));
     let sum_by = |sum: fn(&[u8]) -> u32| {
         time(TURNS, |_| {
             black_box(sum(black_box(&block)));
         })
     };
-    let mut library = || sum_by(linked::checksum);
+    let mut library = || sum_by(words::checksum);
     let mut table = || sum_by(bytewise);
-    let mut bits = || sum_by(reference::checksum::checksum);
+    let mut bits = || sum_by(reference::player::checksum::checksum);
     let times = medians(TURNS, &mut [&mut library, &mut table, &mut bits]);
     line("checksum of 4,096 bytes, beside a table, a byte at a time", times[0], times[1], "   (target 0.90)");
     line("checksum of 4,096 bytes, beside one bit at a time", times[0], times[2], "");
@@ -190,7 +190,7 @@ fn mounts(input: &Input, checksum: (f64, f64)) {
     let mut library = || time(TURNS, |_| assert_eq!(black_box(lent.mount(black_box(input))), 0));
     let mut other = || {
         time(TURNS, |_| {
-            let mounted = reference::mount::mount(black_box(input), &mut cnv, &mut seq);
+            let mounted = mount(black_box(input), &mut cnv, &mut seq);
             assert!(black_box(mounted).is_ok());
         })
     };

@@ -1,24 +1,16 @@
-//! An independent reading of the scope paper: mounting from a super block and a zone report, deciding
-//! calls, digesting completions, and playing a tape of these. Beside it, a seeded generator of tapes
-//! with a model disk, and the comparison of another player with this one.
+//! An independent reading of the scope paper, in three parts and a program:
+//!
+//! - `player` mounts from a super block and a zone report, decides calls, digests completions, and plays a tape of these;
+//! - `disk` is a model disk, and the check that the player's tables agree with it;
+//! - `generator` makes seeded tapes, some of them in runs against the model disk;
+//! - `program` compares another player with this one, shows tapes, and serves the command line.
+//!
+//! Each uses only those above it, so the player knows nothing of what it is tried with. A test holds them to that.
 
-pub mod calls;
-pub mod checksum;
-pub mod compare;
-pub mod completion;
-pub mod consistency;
-pub mod describe;
 pub mod disk;
-pub mod generate;
-pub mod mount;
-pub mod options;
-pub mod play;
-pub mod random;
-pub mod superblock;
-pub mod tally;
-pub mod tape;
-pub mod types;
-pub mod zone;
+pub mod generator;
+pub mod player;
+pub mod program;
 
 #[cfg(test)]
 mod tests;

@@ -1,22 +1,26 @@
 //! The command line of the reference player.
 
-mod sums;
-
 use std::fs;
 use std::io::{self, Read, Write};
 use std::path::Path;
 use std::process::ExitCode;
 
-use reference::compare::{compare_files, compare_generated};
-use reference::describe::describe;
-use reference::generate::generate;
-use reference::play::play;
+use reference::generator::{generate, long, MAX_PAD};
+use reference::player::play::play;
+use reference::program::compare::{compare_files, compare_generated};
+use reference::program::describe::describe;
+use reference::program::sums;
+use reference::program::tally::Tally;
 
 const HELP: &str = "\
 usage:
   reference play [FILE]                        plays a tape (standard input without FILE or with -)
   reference describe [FILE]                    shows a tape as text
   reference generate SEED DIR COUNT            writes COUNT tapes of SEED into DIR
+  reference long SEED CALLS [PAD]              writes one tape with a long run of CALLS calls (0 to 1000000)
+                                               to standard output, and what is on it to standard error; PAD
+                                               bytes (0 to 242, else 0) that mean nothing shift all that
+                                               follows the mount
   reference compare SEED COUNT PLAYER [KEEPDIR]
                                                compares PLAYER on COUNT tapes of SEED; a tape on which
                                                they differ is kept in KEEPDIR
@@ -31,6 +35,10 @@ Inputs for checksum are lines of hex digits, or with --binary a length (two byte
 and as many bytes, over and over.
 The exit status is 0 if all went well, 1 if something failed, 2 for a wrong command line.
 ";
+
+/// A tape is made in memory.
+const MAX_CALLS: u64 = 1_000_000;
+const _: () = assert!(MAX_CALLS == 1_000_000 && MAX_PAD == 242, "the help states both");
 
 enum Problem {
     Usage(String),
@@ -69,18 +77,16 @@ fn run(arguments: &[String]) -> Result<(), Problem> {
         ["generate", seed, directory, count] => {
             write_tapes(number("SEED", seed)?, Path::new(directory), number("COUNT", count)?)
         }
+        ["long", seed, calls] => write_long(seed, calls, "0"),
+        ["long", seed, calls, pad] => write_long(seed, calls, pad),
         ["compare", seed, count, player] => compare(seed, count, player, None),
         ["compare", seed, count, player, keep] => compare(seed, count, player, Some(Path::new(keep))),
         ["compare-files", player, _, ..] => print_line(&compare_files(player, &arguments[2..])?),
         ["checksum"] => print(&sums::of_lines(&read_input("-")?)?),
         ["checksum", "--binary"] => print(&sums::of_records(&read_input("-")?)?),
-        ["checksum-inputs", seed, count] => {
-            let inputs = sums::inputs(number("SEED", seed)?, number("COUNT", count)?);
-            write_out(&sums::as_lines(&inputs))
-        }
+        ["checksum-inputs", seed, count] => write_out(&sums::as_lines(&sum_inputs(seed, count)?)),
         ["checksum-inputs", "--binary", seed, count] => {
-            let inputs = sums::inputs(number("SEED", seed)?, number("COUNT", count)?);
-            write_out(&sums::as_records(&inputs))
+            write_out(&sums::as_records(&sum_inputs(seed, count)?))
         }
         [] => Err(Problem::Usage("a command is needed".to_string())),
         [command, ..] => {
@@ -90,8 +96,12 @@ fn run(arguments: &[String]) -> Result<(), Problem> {
 }
 
 fn number(name: &str, text: &str) -> Result<u64, Problem> {
-    text.parse()
-        .map_err(|_| Problem::Usage(format!("{name} must be a number from 0 to 2^64-1, not {text:?}")))
+    number_up_to(u64::MAX, name, text)
+}
+
+fn number_up_to(most: u64, name: &str, text: &str) -> Result<u64, Problem> {
+    let wrong = || Problem::Usage(format!("{name} must be a number from 0 to {most}, not {text:?}"));
+    text.parse().ok().filter(|&value| value <= most).ok_or_else(wrong)
 }
 
 fn play_tape(file: &str) -> Result<(), Problem> {
@@ -104,6 +114,10 @@ fn describe_tape(file: &str) -> Result<(), Problem> {
     let tape = read_input(file)?;
     let text: String = describe(&tape).into_iter().map(|record| record.text + "\n").collect();
     print(&text)
+}
+
+fn sum_inputs(seed: &str, count: &str) -> Result<Vec<Vec<u8>>, Problem> {
+    Ok(sums::inputs(number("SEED", seed)?, number("COUNT", count)?))
 }
 
 fn compare(seed: &str, count: &str, player: &str, keep: Option<&Path>) -> Result<(), Problem> {
@@ -120,6 +134,15 @@ fn write_tapes(seed: u64, directory: &Path, count: u64) -> Result<(), Problem> {
         generated.check.map_err(|text| format!("tape {index} of seed {seed}: {text}"))?;
     }
     Ok(())
+}
+
+fn write_long(seed: &str, calls: &str, pad: &str) -> Result<(), Problem> {
+    let (calls, pad) = (number_up_to(MAX_CALLS, "CALLS", calls)?, number_up_to(MAX_PAD, "PAD", pad)?);
+    let tape = long(number("SEED", seed)?, calls, pad)?;
+    let mut tally = Tally::default();
+    play(&tape).iter().for_each(|line| tally.count_line(&line.text));
+    eprintln!("{}", tally.tape_summary(tape.len()));
+    write_out(&tape)
 }
 
 fn read_input(file: &str) -> Result<Vec<u8>, Problem> {

@@ -1,8 +1,8 @@
 //! Calls: numbers 1 to 6 and 10, their order, names and modes.
 
 use super::*;
-use crate::calls::Reply::{Done, Issued};
-use crate::types::{Access, Command, Condition, Operation, Row};
+use crate::player::calls::Reply::{Done, Issued};
+use crate::player::types::{Access, Command, Condition, Operation, Row};
 
 #[test]
 fn numbers_one_to_six() {

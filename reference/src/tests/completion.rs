@@ -1,7 +1,7 @@
 //! Completions: numbers 7 to 10 and the recovery table.
 
 use super::*;
-use crate::types::{Access, Command, Condition, Held, Operation, Row};
+use crate::player::types::{Access, Command, Condition, Held, Operation, Row};
 
 const OPTIONS: [&str; 4] = ["errors=remount-ro", "errors=zone-ro", "errors=zone-offline", "errors=repair"];
 

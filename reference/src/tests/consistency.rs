@@ -1,9 +1,9 @@
 //! The consistency check on runs whose every number is written down.
 
 use super::*;
-use crate::consistency::Run;
-use crate::disk::{Choice, Mishap};
-use crate::types::{Access, Condition, Row};
+use crate::disk::consistency::Run;
+use crate::disk::model::{Choice, Mishap};
+use crate::player::types::{Access, Condition, Row};
 
 const WELL: Choice = Choice { fail: false, landed_blocks: 0, mishap: None };
 
@@ -32,7 +32,7 @@ fn a_recovered_file_under_zone_offline() {
     issue_and_do(&mut run, &write(SEQ, 0, 4096, 8192), &failing(1, None));
     assert_eq!(first(&run), (0, Condition::Healthy, Access::None));
     assert_eq!(run.disk.zones[3].pointer, 1572880);
-    assert_eq!(run.tally.exceptions, [1, 0, 0]);
+    assert_eq!(run.compared.exceptions, [1, 0, 0]);
 }
 
 #[test]
@@ -41,7 +41,7 @@ fn a_zone_that_became_read_only() {
         let mut run = begin(options);
         issue_and_do(&mut run, &write(SEQ, 0, 4096, 8192), &failing(2, Some(Mishap::BecomesReadOnly)));
         assert_eq!(first(&run), (4096, Condition::ReadOnly, Access::Read));
-        assert_eq!(run.tally.exceptions, [0, 1, 0]);
+        assert_eq!(run.compared.exceptions, [0, 1, 0]);
     }
 }
 
@@ -50,7 +50,7 @@ fn a_recovered_file_under_zone_ro() {
     let mut run = begin("errors=zone-ro");
     issue_and_do(&mut run, &write(SEQ, 0, 4096, 8192), &failing(1, None));
     assert_eq!(first(&run), (8192, Condition::Healthy, Access::Read));
-    assert_eq!(run.tally.exceptions, [0, 0, 1]);
+    assert_eq!(run.compared.exceptions, [0, 0, 1]);
 }
 
 #[test]
@@ -62,7 +62,7 @@ fn a_repaired_file_equals_the_fresh_one() {
     assert_eq!(first(&run), (0, Condition::Healthy, Access::Write));
     issue_and_do(&mut run, &write(SEQ, 0, 0, 12288), &WELL);
     assert_eq!(first(&run), (12288, Condition::Healthy, Access::Write));
-    assert_eq!(run.tally.exceptions, [0, 0, 0]);
+    assert_eq!(run.compared.exceptions, [0, 0, 0]);
 }
 
 /// Neither a good read nor an idle completion makes a file quiet: nothing is compared until one that does.
@@ -70,13 +70,13 @@ fn a_repaired_file_equals_the_fresh_one() {
 fn what_makes_a_file_quiet() {
     let mut run = begin("errors=repair");
     run.mishap(3, Mishap::Fall { blocks: 1 }).unwrap();
-    let rows = run.tally.rows;
+    let rows = run.compared.rows;
     issue_and_do(&mut run, &read(SEQ, 0, 0, 4096), &WELL);
     run.idle_completion(None).unwrap();
     // Two states, each with seq/1 alone.
-    assert_eq!(run.tally.rows, rows + 2);
+    assert_eq!(run.compared.rows, rows + 2);
     issue_and_do(&mut run, &read(SEQ, 0, 0, 4096), &failing(0, None));
-    assert_eq!(run.tally.rows, rows + 4);
+    assert_eq!(run.compared.rows, rows + 4);
     assert_eq!(first(&run), (0, Condition::Healthy, Access::Write));
 }
 

@@ -1,9 +1,20 @@
 //! The generator: the same tapes for the same seed, other ones for another, and a check that holds.
 
-use crate::generate::generate;
-use crate::play::play;
-use crate::random::Random;
-use crate::tally::Tally;
+use crate::generator::random::Random;
+use crate::generator::{generate, long, MAX_PAD};
+use crate::player::play::play;
+use crate::player::tape::{Next, Reader, Record};
+use crate::program::tally::Tally;
+
+fn calls_on(tape: &[u8]) -> usize {
+    let mut reader = Reader::new(tape);
+    let records = std::iter::from_fn(|| match reader.read() {
+        Next::Record(record) => Some(record),
+        Next::End => None,
+        Next::Broken => panic!("a broken tape"),
+    });
+    records.filter(|record| matches!(record, Record::Call(_))).count()
+}
 
 #[test]
 fn tapes_follow_from_the_seed() {
@@ -27,10 +38,10 @@ fn the_check_holds_and_sees_much() {
     let mut tally = Tally::default();
     for index in 1..=150 {
         let generated = generate(1, index);
-        tally.add(&generated.check.unwrap());
+        tally.compared.add(&generated.check.unwrap());
         play(&generated.bytes).iter().for_each(|line| tally.count_line(&line.text));
     }
-    assert!(tally.exceptions.iter().all(|&count| count > 0), "{}", tally.summary());
+    assert!(tally.compared.exceptions.iter().all(|&count| count > 0), "{}", tally.summary());
     assert!(tally.missing().len() < 5, "{:?}", tally.missing());
 }
 
@@ -49,4 +60,58 @@ fn missing_answers_are_named() {
         tally.summary().split(", nonzero").next(),
         Some("0 tapes, 3 lines alike (MO 29=1; OK 0=1; RD R=1)")
     );
+}
+
+#[test]
+fn a_long_run_has_exactly_the_calls_asked_for() {
+    for calls in [0, 1, 2, 399, 400, 401, 1000] {
+        let tape = long(3, calls, 0).unwrap();
+        assert_eq!(calls_on(&tape), calls as usize);
+        assert_eq!(tape, long(3, calls, 0).unwrap());
+    }
+    assert_ne!(long(3, 100, 0), long(4, 100, 0));
+}
+
+/// The padding changes the length byte of the options and what stands behind them, and no answer.
+#[test]
+fn padding_shifts_what_follows_the_mount() {
+    let plain = long(2, 300, 0).unwrap();
+    let options_at = plain.windows(3).position(|bytes| bytes == b"MO\x0D").unwrap() + 3;
+    let (front, rest) = plain.split_at(options_at + 13);
+    for pad in [1, 7, MAX_PAD] {
+        let padded = long(2, 300, pad).unwrap();
+        let mut expected = front.to_vec();
+        expected[options_at - 1] = 13 + pad as u8;
+        expected.resize(front.len() + pad as usize, b',');
+        expected.extend_from_slice(rest);
+        assert!(padded == expected, "padding {pad}");
+        let answers = |tape: &[u8]| -> Vec<String> { play(tape).into_iter().map(|line| line.text).collect() };
+        assert_eq!(answers(&plain), answers(&padded));
+    }
+}
+
+/// In every tenth of a long run files are read, written, reset, finished and flushed, fail and recover.
+#[test]
+fn a_long_run_stays_lively() {
+    const LIVELY: [(&str, &str); 8] = [
+        ("RD", "R"),
+        ("WR", "W"),
+        ("WR", "6"),
+        ("TR", "Z"),
+        ("TR", "F"),
+        ("FL", "S"),
+        ("OK", "0"),
+        ("NO", "7"),
+    ];
+    for seed in 1..=3 {
+        let lines = play(&long(seed, 6000, 0).unwrap());
+        for (number, tenth) in lines.chunks_exact(lines.len() / 10).enumerate() {
+            let mut tally = Tally::default();
+            tenth.iter().for_each(|line| tally.count_line(&line.text));
+            for (mark, answer) in LIVELY {
+                let count = tally.count(mark, Some(answer));
+                assert!(count > 0, "no {mark} {answer} in tenth {number} of seed {seed}");
+            }
+        }
+    }
 }

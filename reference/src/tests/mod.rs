@@ -1,5 +1,6 @@
 //! Tests with numbers from the papers, or worked out by hand; none asks this program for its expectation.
 
+mod borders;
 mod calls;
 mod completion;
 mod consistency;
@@ -8,11 +9,11 @@ mod mount;
 mod sheet;
 mod tape;
 
-use crate::calls::{Call, Reply, Request};
-use crate::mount::Input;
-use crate::play::mount_volume;
-use crate::types::{FileKind, Refusal, Volume};
-use crate::zone::Zone;
+use crate::player::calls::{Call, Reply, Request};
+use crate::player::mount::Input;
+use crate::player::play::mount_volume;
+use crate::player::types::{FileKind, Refusal, Volume};
+use crate::player::zone::Zone;
 
 pub const CNV: FileKind = FileKind::Conventional;
 pub const SEQ: FileKind = FileKind::Sequential;
@@ -29,7 +30,7 @@ pub fn super_block(features: u64) -> Vec<u8> {
 /// Puts the checksum over bytes with a zero field into a super block.
 pub fn stamp(bytes: &mut [u8]) {
     bytes[4..8].fill(0);
-    let sum = crate::checksum::checksum(bytes);
+    let sum = crate::player::checksum::checksum(bytes);
     bytes[4..8].copy_from_slice(&sum.to_le_bytes());
 }
 

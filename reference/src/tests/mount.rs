@@ -1,9 +1,9 @@
 //! Mounts: every refusal number, what zones become, and options.
 
 use super::*;
-use crate::mount::mount;
-use crate::options::parse;
-use crate::types::{Access, Condition, Policy, Row};
+use crate::player::mount::mount;
+use crate::player::options::parse;
+use crate::player::types::{Access, Condition, Policy, Row};
 
 fn refusal(input: &Input) -> u32 {
     mount_volume(input).map_or_else(Refusal::number, |_| 0)

@@ -1,10 +1,11 @@
 //! The paper's worked example, whole.
 
 use super::*;
-use crate::calls::Reply::{Done, Issued};
-use crate::play::play;
-use crate::tape::{encode, CallRecord, Record, Verb};
-use crate::types::{Access, Command, Operation};
+use crate::generator::records::encode;
+use crate::player::calls::Reply::{Done, Issued};
+use crate::player::play::play;
+use crate::player::tape::{CallRecord, Record, Verb};
+use crate::player::types::{Access, Command, Operation};
 
 fn command(operation: Operation, address: u64, length: u64) -> Reply {
     Issued(Command { operation, address, length })
@@ -93,6 +94,6 @@ OK 0 0
 
 #[test]
 fn checksum_is_not_inverted() {
-    assert_eq!(crate::checksum::checksum(b"123456789"), 0x340BC6D9);
-    assert_eq!(crate::checksum::checksum(b""), 0xFFFFFFFF);
+    assert_eq!(crate::player::checksum::checksum(b"123456789"), 0x340BC6D9);
+    assert_eq!(crate::player::checksum::checksum(b""), 0xFFFFFFFF);
 }

@@ -1,18 +1,13 @@
 //! The tape: broken ones, kinds that no file has, and how differences are shown.
 
 use super::*;
-use crate::compare::compare_output;
-use crate::play::play;
-use crate::tape::{encode, CallRecord, Record, Verb};
+use crate::generator::records::{encode, head};
+use crate::player::play::play;
+use crate::player::tape::{CallRecord, Record, Verb};
+use crate::program::compare::compare_output;
 
-fn head() -> Vec<u8> {
-    let input = sheet_input();
-    let mut tape = Vec::new();
-    encode(&Record::Block(4096), &mut tape);
-    encode(&Record::SuperBlock(&input.super_block), &mut tape);
-    encode(&Record::Report(&input.report), &mut tape);
-    encode(&Record::Options(b""), &mut tape);
-    tape
+fn sheet_head() -> Vec<u8> {
+    head(&input_with(0, "", &sheet_zones()))
 }
 
 fn lines(tape: &[u8]) -> Vec<String> {
@@ -21,7 +16,7 @@ fn lines(tape: &[u8]) -> Vec<String> {
 
 #[test]
 fn every_cut_of_the_mount_is_broken() {
-    let head = head();
+    let head = sheet_head();
     for length in 0..head.len() {
         assert_eq!(lines(&head[..length]), ["?? 40"], "{length} bytes");
     }
@@ -32,14 +27,14 @@ fn every_cut_of_the_mount_is_broken() {
 fn broken_after_the_mount() {
     let tails: [&[u8]; 9] = [b"O", b"ok", b"??", b"NO", b"NO123", b"BK\0\x10", b"MO\0", b"ZR", b"RD\x01"];
     for tail in tails {
-        let tape = [head().as_slice(), b"OK", tail].concat();
+        let tape = [sheet_head().as_slice(), b"OK", tail].concat();
         assert_eq!(lines(&tape), ["MO 0 2 2", "OK 8", "?? 40"], "{}", tail.escape_ascii());
     }
 }
 
 #[test]
 fn a_refused_mount_stops_the_tape() {
-    let mut tape = head();
+    let mut tape = sheet_head();
     tape[2] = 1;
     tape.extend_from_slice(b"OK");
     assert_eq!(lines(&tape), ["MO 20"]);
@@ -50,12 +45,8 @@ fn a_report_without_a_possible_count_is_only_a_header() {
     for count in [0, 1024, u32::MAX] {
         let mut report = vec![0; 16];
         report[8..12].copy_from_slice(&count.to_le_bytes());
-        let mut tape = Vec::new();
-        encode(&Record::Block(512), &mut tape);
-        encode(&Record::SuperBlock(&super_block(0)), &mut tape);
-        encode(&Record::Report(&report), &mut tape);
-        encode(&Record::Options(b""), &mut tape);
-        assert_eq!(lines(&tape), ["MO 28"]);
+        let input = Input { block: 512, report, ..sheet_input() };
+        assert_eq!(lines(&head(&input)), ["MO 28"]);
     }
 }
 
@@ -64,19 +55,13 @@ fn bad_zone_is_named() {
     let mut zones = sheet_zones();
     zones[2].length = 8;
     zones[4].kind = 9;
-    let input = input_with(0, "", &zones);
-    let mut tape = Vec::new();
-    encode(&Record::Block(4096), &mut tape);
-    encode(&Record::SuperBlock(&input.super_block), &mut tape);
-    encode(&Record::Report(&input.report), &mut tape);
-    encode(&Record::Options(b""), &mut tape);
-    assert_eq!(lines(&tape), ["MO 29 2"]);
+    assert_eq!(lines(&head(&input_with(0, "", &zones))), ["MO 29 2"]);
 }
 
 /// Mark by mark as bytes, so that the layout of a call stands here once more.
 #[test]
 fn bytes_of_calls() {
-    let mut tape = head();
+    let mut tape = sheet_head();
     tape.extend_from_slice(
         b"RD\x01\x00\x00\x00\x00\x01\x00\x00\x00\x00\x00\x00\x00\x05\x00\x00\x00\x00\x00\x00\x00",
     );
@@ -97,7 +82,7 @@ fn bytes_of_calls() {
 
 #[test]
 fn differences_are_shown() {
-    let mut tape = head();
+    let mut tape = sheet_head();
     let call = CallRecord { verb: Verb::Write, kind: 1, number: 0, offset: 4096, length: 8192 };
     encode(&Record::Call(call), &mut tape);
     let ours = play(&tape);

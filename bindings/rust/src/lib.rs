@@ -1,0 +1,66 @@
+//! The proved zonefs library for Rust. It mounts a zoned disk, decides each call on its files, and digests what the disk reports
+//! back, halfway writes included. It does nothing to the disk itself: a call answers with a command, the caller has the disk do it,
+//! and then says how that went.
+//!
+//! A file is a zone, or a run of zones: `cnv/0`, `cnv/1`, .. in conventional zones, `seq/0`, .. in sequential ones, which are written
+//! at their end only. [`Volume`] has the calls; [`Refusal`] is every way to say no, with the scope paper's numbers; [`words`] has the
+//! functions of `include/zonefs.h` as they are, on slices.
+//!
+//! ```
+//! use zonefs::{FileId, Refusal, Reply, Source, Volume, EMPTY_ROW};
+//!
+//! # // A disk of two zones of 64 sectors: one conventional, one sequential and empty.
+//! # let mut super_block = [0; 4096];
+//! # super_block[..4].copy_from_slice(&0x5A4F_4653_u32.to_le_bytes());
+//! # let sum = zonefs::checksum(&super_block);
+//! # super_block[4..8].copy_from_slice(&sum.to_le_bytes());
+//! # let mut report = [0; 16 + 2 * 64];
+//! # report[8] = 2;
+//! # report[16 + 8] = 64;
+//! # report[16 + 24] = 1;
+//! # let zone = &mut report[80..];
+//! # (zone[0], zone[8], zone[16], zone[24], zone[25]) = (64, 64, 64, 2, 1);
+//! # // After the failure one block of 4,096 bytes, eight sectors, is written.
+//! # let mut record = [0; 64];
+//! # record.copy_from_slice(zone);
+//! # (record[16], record[25]) = (72, 2);
+//! // Each table has room for four files. The disk's first bytes and its zone report are read by the caller.
+//! let (mut cnv, mut seq) = ([EMPTY_ROW; 4], [EMPTY_ROW; 4]);
+//! let source = Source { block: 4096, super_block: &super_block, options: b"errors=repair", report: &report };
+//! let mut volume = Volume::mount(&source, &mut cnv, &mut seq)?;
+//!
+//! let log = volume.find("seq/0")?;
+//! let size = volume.show(log)?.size;
+//! let Reply::Command(command) = volume.write(log, size, 8192)? else { panic!("two blocks are to be written") };
+//! assert_eq!((command.address, command.length), (64 * 512, 8192));
+//!
+//! // The disk fails it halfway, and its record of the zone says that one block is there.
+//! assert_eq!(volume.fail(&record, false), Refusal::Failed { size: 4096 });
+//! assert_eq!(volume.show(FileId::seq(0))?.size, 4096);
+//! # Ok::<(), Refusal>(())
+//! ```
+//!
+//! Nothing here needs the standard library or a heap. The archive that this crate links is made by `rt staticlib capi`; the
+//! environment variable `ZONEFS_LIB_DIR` names its folder where that isn't `target/staticlib` of the repository.
+//!
+//! The archive's functions are proved to answer as the scope paper says, for every input. The few lines of this crate around
+//! them are ordinary Rust, and tested.
+
+#![cfg_attr(not(test), no_std)]
+#![deny(missing_docs)]
+#![deny(unsafe_op_in_unsafe_fn)]
+
+mod codes;
+mod refusal;
+mod values;
+mod volume;
+pub mod words;
+
+#[cfg(test)]
+mod tests;
+
+pub use codes::{Access, CommandKind, Condition, FileKind, Policy};
+pub use refusal::Refusal;
+pub use values::{Command, File, FileId, MountValue, Reply, Source};
+pub use volume::{RowWords, Volume, EMPTY_ROW};
+pub use words::checksum;

@@ -1,0 +1,153 @@
+//! The crate against `include/zonefs.h`, and what its own types promise.
+
+use std::collections::BTreeMap;
+
+use crate::words::{ANSWER_WORDS, CONSTANTS, FUNCTIONS, MOUNT_WORDS};
+use crate::{codes, refusal};
+use crate::{FileId, FileKind, MountValue, Policy, Refusal};
+
+/// The header without its comments.
+fn header() -> String {
+    let path = concat!(env!("CARGO_MANIFEST_DIR"), "/../../include/zonefs.h");
+    let text = std::fs::read_to_string(path).expect("the header is there");
+    let after_comment = |piece: &str| piece.split_once("*/").expect("a comment ends").1.to_string();
+    let mut pieces = text.split("/*");
+    let first = pieces.next().unwrap_or_default().to_string();
+    first + &pieces.map(after_comment).collect::<Vec<_>>().join(" ")
+}
+
+/// Each constant of the header, without ZONEFS_.
+fn header_constants() -> BTreeMap<String, u64> {
+    let text = header().replace(['=', ',', '{', '}', ';'], " ");
+    let words: Vec<&str> = text.split_whitespace().collect();
+    let constant =
+        |pair: &[&str]| Some((pair[0].strip_prefix("ZONEFS_")?.to_string(), pair[1].parse().ok()?));
+    words.windows(2).filter_map(constant).collect()
+}
+
+#[test]
+fn constants_are_the_headers() {
+    let ours: BTreeMap<&str, u64> =
+        [CONSTANTS, codes::CODES, refusal::NUMBERS].into_iter().flatten().copied().collect();
+    let theirs = header_constants();
+    for (name, value) in &theirs {
+        assert_eq!(ours.get(name.as_str()), Some(value), "ZONEFS_{name}");
+    }
+    assert!(theirs.len() > 60, "only {} constants were found", theirs.len());
+}
+
+/// A type of the header as Rust writes it.
+fn rust_type(c_type: &str) -> &'static str {
+    match c_type.trim() {
+        "const uint8_t *" => "*const u8",
+        "const uint64_t *" => "*const u64",
+        "uint64_t *" => "*mut u64",
+        "uint64_t" => "u64",
+        "uint32_t" => "u32",
+        "size_t" => "usize",
+        other => panic!("{other}"),
+    }
+}
+
+/// A parameter of the header: name and type, but a length, which has no name of its own in Rust, by its type alone.
+fn header_parameter(parameter: &str) -> String {
+    let name = parameter.rsplit([' ', '*']).next().expect("a name");
+    match rust_type(parameter.trim_end_matches(name)) {
+        "usize" => "usize".to_string(),
+        plain => format!("{name}: {plain}"),
+    }
+}
+
+/// Name, parameters and result of each function of the header.
+fn header_functions() -> BTreeMap<String, (Vec<String>, String)> {
+    let text = header();
+    let mut functions = BTreeMap::new();
+    for (front, parameters) in text.split(';').filter_map(|piece| piece.split_once('(')) {
+        let (result, name) = front.trim().rsplit_once(' ').expect("a result and a name");
+        let result = rust_type(result.lines().last().unwrap_or_default());
+        let parameters = parameters.trim_end_matches(')').split(',');
+        let parameters = parameters.map(|parameter| header_parameter(parameter.trim())).collect();
+        functions.insert(name.to_string(), (parameters, result.to_string()));
+    }
+    functions
+}
+
+/// A parameter of ours as the archive takes it.
+fn archive_parameters(parameter: &str) -> Vec<String> {
+    let plain: String = parameter.split_whitespace().collect();
+    let (name, kind) = plain.split_once(':').expect("a name and a type");
+    let pointer = match kind {
+        "&[u8]" => "*const u8",
+        "&[u64]" => "*const u64",
+        "&mut[u64]" => "*mut u64",
+        number => return vec![format!("{name}: {number}")],
+    };
+    vec![format!("{name}: {pointer}"), "usize".to_string()]
+}
+
+/// The linker sees names of functions only: nothing else would notice two parameters in the wrong order.
+#[test]
+fn functions_are_the_headers() {
+    let ours: BTreeMap<String, _> = FUNCTIONS
+        .iter()
+        .map(|(name, parameters, result)| {
+            let parameters = parameters.iter().flat_map(|parameter| archive_parameters(parameter)).collect();
+            (name.to_string(), (parameters, result.to_string()))
+        })
+        .collect();
+    assert_eq!(ours, header_functions());
+    assert!(ours.len() >= 10, "only {} functions were found", ours.len());
+}
+
+#[test]
+fn refusals_have_the_papers_numbers_and_keep_their_values() {
+    let answer = [1, 77, 0, 0, 0, 0, 0];
+    let numbers: Vec<u64> =
+        (0..=100).filter(|&number| Refusal::from_answer(number, &answer).is_some()).collect();
+    assert_eq!(numbers, [1, 2, 3, 4, 5, 6, 7, 8, 9, 10, 20, 21, 22, 23, 24, 25, 26, 27, 28, 29, 30]);
+    for number in numbers {
+        assert_eq!(Refusal::from_answer(number, &answer).map(Refusal::number), Some(number));
+    }
+    assert_eq!(Refusal::from_answer(7, &answer), Some(Refusal::Failed { size: 77 }));
+    assert_eq!(Refusal::from_answer(29, &answer), Some(Refusal::BadZone { zone: 77 }));
+    assert_eq!(Refusal::from_answer(30, &[0; ANSWER_WORDS]), Some(Refusal::TooFewRows));
+}
+
+#[test]
+fn refusals_are_errors_with_a_text() {
+    let error: Box<dyn std::error::Error> = Box::new(Refusal::BadZone { zone: 3 });
+    assert_eq!(error.to_string(), "29: zone 3 of the report is bad");
+    assert_eq!(
+        Refusal::Failed { size: 8192 }.to_string(),
+        "7: the disk failed the command, and the file has 8192 bytes now"
+    );
+    assert_eq!(Refusal::Busy.to_string(), "2: a command is outstanding");
+}
+
+#[test]
+fn names_and_codes() {
+    assert_eq!(FileId::cnv(0).to_string(), "cnv/0");
+    assert_eq!(FileId::seq(12).to_string(), "seq/12");
+    assert_eq!(FileKind::from_code(1), Some(FileKind::Sequential));
+    assert_eq!(FileKind::from_code(2), None);
+    assert_eq!(Policy::from_code(Policy::Repair.code()), Some(Policy::Repair));
+}
+
+/// Words hold no mount value where one of them is out of its range, also one of a command that isn't outstanding.
+#[test]
+fn mount_values() {
+    let words =
+        [4096, 2, 3, 4, 5, 0o640, 3, 0x0706_0504_0302_0100, 0x0F0E_0D0C_0B0A_0908, 1, 0, 0, 0, 0, 0, 0];
+    let value = MountValue::from_words(&words).expect("a mount value");
+    assert_eq!((value.cnv_files, value.seq_files, value.policy), (2, 3, Policy::Repair));
+    assert_eq!((value.read_only, value.outstanding), (true, None));
+    assert_eq!(value.uuid, [0, 1, 2, 3, 4, 5, 6, 7, 8, 9, 10, 11, 12, 13, 14, 15]);
+    let most = [u64::MAX, 1 << 32, 1 << 32, 1 << 32, 1 << 32, 1 << 32, 4, 0, 0, 2, 2, 2, 1 << 32, 5, 0, 0];
+    for at in (1..MOUNT_WORDS).filter(|&at| most[at] != 0) {
+        let mut wrong = words;
+        wrong[at] = most[at];
+        assert_eq!(MountValue::from_words(&wrong), None, "word {at}");
+        wrong[at] -= 1;
+        assert!(MountValue::from_words(&wrong).is_some(), "word {at}");
+    }
+}

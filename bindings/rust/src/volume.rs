@@ -1,0 +1,186 @@
+//! A mounted volume, with types.
+
+use crate::codes::{Access, Condition, FileKind};
+use crate::refusal::Refusal;
+use crate::values::{Command, File, FileId, MountValue, Reply, Source};
+use crate::words::{self, ANSWER_WORDS, MOUNT_WORDS, ROW_WORDS};
+
+/// The words of one file in a table.
+pub type RowWords = [u64; ROW_WORDS];
+
+/// To fill a table with before a mount. Any other words do as well.
+pub const EMPTY_ROW: RowWords = [0; ROW_WORDS];
+
+/// A mounted volume: what the library knows of it, in words that it is lent at each call.
+///
+/// `T` is a table, with a [`RowWords`] for each file of a kind: anything that lends them, such as `&mut [RowWords]`, an array or a
+/// `Vec<RowWords>`. So the caller says where the tables are and how long, and none of this needs a heap.
+/// [`MOST_FILES`](words::MOST_FILES) rows are always enough.
+#[derive(Clone, Debug, PartialEq, Eq)]
+pub struct Volume<T> {
+    mount: [u64; MOUNT_WORDS],
+    cnv: T,
+    seq: T,
+}
+
+impl<T: AsRef<[RowWords]> + AsMut<[RowWords]>> Volume<T> {
+    /// Mounts. Writes a row for each file to the front of both tables. Refused, they are as they were; refusals are 20 to 30.
+    pub fn mount(source: &Source<'_>, mut cnv: T, mut seq: T) -> Result<Volume<T>, Refusal> {
+        let Source { block, super_block, options, report } = *source;
+        let mut mount = [0; MOUNT_WORDS];
+        let (cnv_words, seq_words) = (words_mut(&mut cnv), words_mut(&mut seq));
+        ask(|answer| {
+            words::mount(block, super_block, options, report, cnv_words, seq_words, &mut mount, answer)
+        })?;
+        Ok(Volume { mount, cnv, seq })
+    }
+
+    /// A volume from words that were taken from one, by [`Volume::into_parts`] or copied. Any others are safe as well: what is
+    /// impossible in them is answered with [`Refusal::Impossible`].
+    pub fn from_parts(mount: [u64; MOUNT_WORDS], cnv: T, seq: T) -> Volume<T> {
+        Volume { mount, cnv, seq }
+    }
+
+    /// The mount words and both tables, cnv first. They are all there is to a volume.
+    pub fn into_parts(self) -> ([u64; MOUNT_WORDS], T, T) {
+        (self.mount, self.cnv, self.seq)
+    }
+
+    /// The mount words.
+    pub fn mount_words(&self) -> &[u64; MOUNT_WORDS] {
+        &self.mount
+    }
+
+    /// What the mount words hold; `None` only where they came from elsewhere and hold no mount value.
+    pub fn value(&self) -> Option<MountValue> {
+        MountValue::from_words(&self.mount)
+    }
+
+    /// The table of a kind. Rows past the files are as the caller had them.
+    pub fn table(&self, kind: FileKind) -> &[RowWords] {
+        match kind {
+            FileKind::Conventional => self.cnv.as_ref(),
+            FileKind::Sequential => self.seq.as_ref(),
+        }
+    }
+
+    /// Finds a name such as `seq/12`. Refusals are 1 and 10.
+    pub fn find(&self, name: impl AsRef<[u8]>) -> Result<FileId, Refusal> {
+        let (cnv, seq) = (words_of(&self.cnv), words_of(&self.seq));
+        let answer = ask(|answer| words::find(&self.mount, cnv, seq, name.as_ref(), answer))?;
+        let kind = promised(FileKind::from_code(answer[words::ANSWER_KIND]));
+        Ok(FileId { kind, number: answer[words::ANSWER_NUMBER] as u32 })
+    }
+
+    /// Shows a file. Refusals are 1 and 10.
+    pub fn show(&self, file: FileId) -> Result<File, Refusal> {
+        let (cnv, seq) = (words_of(&self.cnv), words_of(&self.seq));
+        let answer = ask(|answer| words::show(&self.mount, cnv, seq, file.kind_code(), file.number, answer))?;
+        Ok(File {
+            start: answer[words::ANSWER_START],
+            capacity: answer[words::ANSWER_CAPACITY],
+            size: answer[words::ANSWER_SIZE],
+            condition: promised(Condition::from_code(answer[words::ANSWER_CONDITION])),
+            access: promised(Access::from_code(answer[words::ANSWER_ACCESS])),
+            mode: answer[words::ANSWER_MODE] as u32,
+        })
+    }
+
+    /// Asks to read. A read is cut at the file's size. Refusals are 1, 2, 4, 5 and 10.
+    pub fn read(&mut self, file: FileId, offset: u64, length: u64) -> Result<Reply, Refusal> {
+        self.call(|mount, cnv, seq, answer| {
+            words::read(mount, cnv, seq, file.kind_code(), file.number, offset, length, answer)
+        })
+    }
+
+    /// Asks to write. A seq file is written at its size only, in whole blocks. Refusals are 1 to 6 and 10.
+    pub fn write(&mut self, file: FileId, offset: u64, length: u64) -> Result<Reply, Refusal> {
+        self.call(|mount, cnv, seq, answer| {
+            words::write(mount, cnv, seq, file.kind_code(), file.number, offset, length, answer)
+        })
+    }
+
+    /// Asks to truncate a seq file, to 0 or to its capacity. Refusals are 1 to 4 and 10.
+    pub fn truncate(&mut self, file: FileId, size: u64) -> Result<Reply, Refusal> {
+        self.call(|mount, cnv, seq, answer| {
+            words::truncate(mount, cnv, seq, file.kind_code(), file.number, size, answer)
+        })
+    }
+
+    /// Asks to flush. Refusals are 1 to 4 and 10.
+    pub fn flush(&mut self, file: FileId) -> Result<Reply, Refusal> {
+        self.call(|mount, cnv, seq, answer| {
+            words::flush(mount, cnv, seq, file.kind_code(), file.number, answer)
+        })
+    }
+
+    /// The disk did all of the outstanding command. Gives the bytes read or written, else 0. Refusals are 8 and 10.
+    pub fn complete(&mut self) -> Result<u64, Refusal> {
+        let answer = self.completion(words::complete)?;
+        Ok(answer[words::ANSWER_COUNT])
+    }
+
+    /// The disk failed the outstanding command; a read or write that came out short counts as failed.
+    ///
+    /// `record` is the 64 bytes of the zone at the command's address as it is after the failure, a `struct blk_zone` of Linux;
+    /// `capacity_given` is the flag of the report that it came with.
+    ///
+    /// This is always a refusal: [`Refusal::Failed`] with the file's size now, and nothing is outstanding any more; or 8, 9 or
+    /// 10, and nothing is changed. So a driver can answer for a whole command with
+    /// `if done { volume.complete() } else { Err(volume.fail(&record, true)) }`.
+    #[must_use]
+    pub fn fail(&mut self, record: &[u8], capacity_given: bool) -> Refusal {
+        let failed = self.completion(|mount, cnv, seq, answer| {
+            words::fail(mount, cnv, seq, record, u32::from(capacity_given), answer)
+        });
+        promised(failed.err())
+    }
+
+    /// Lends a call what it takes, and reads its answer.
+    fn call(
+        &mut self,
+        call: impl FnOnce(&mut [u64], &[u64], &[u64], &mut [u64]) -> u64,
+    ) -> Result<Reply, Refusal> {
+        let (cnv, seq) = (words_of(&self.cnv), words_of(&self.seq));
+        let answer = ask(|answer| call(&mut self.mount, cnv, seq, answer))?;
+        Ok(match answer[words::ANSWER_VALUES] {
+            words::AT_ONCE => Reply::Done(answer[words::ANSWER_COUNT]),
+            _ => Reply::Command(promised(Command::from_words(
+                answer[words::ANSWER_COMMAND],
+                answer[words::ANSWER_ADDRESS],
+                answer[words::ANSWER_LENGTH],
+            ))),
+        })
+    }
+
+    /// Lends a completion what it takes, and gives the answer words.
+    fn completion(
+        &mut self,
+        complete: impl FnOnce(&mut [u64], &mut [u64], &mut [u64], &mut [u64]) -> u64,
+    ) -> Result<[u64; ANSWER_WORDS], Refusal> {
+        let (cnv, seq) = (words_mut(&mut self.cnv), words_mut(&mut self.seq));
+        ask(|answer| complete(&mut self.mount, cnv, seq, answer))
+    }
+}
+
+fn words_of(table: &impl AsRef<[RowWords]>) -> &[u64] {
+    table.as_ref().as_flattened()
+}
+
+fn words_mut(table: &mut impl AsMut<[RowWords]>) -> &mut [u64] {
+    table.as_mut().as_flattened_mut()
+}
+
+/// Lends answer words, and gives them back unless the number is a refusal's.
+fn ask(function: impl FnOnce(&mut [u64]) -> u64) -> Result<[u64; ANSWER_WORDS], Refusal> {
+    let mut answer = [0; ANSWER_WORDS];
+    match function(&mut answer) {
+        words::OK => Ok(answer),
+        number => Err(promised(Refusal::from_answer(number, &answer))),
+    }
+}
+
+/// What the library's contract promises is there. It could be missing only with another archive than the header's.
+fn promised<T>(value: Option<T>) -> T {
+    value.expect("the archive answers as include/zonefs.h says")
+}

@@ -1,0 +1,306 @@
+//! The functions of `include/zonefs.h` on slices, and the layout of the words that they read and write.
+//!
+//! Nothing is demanded of what the slices hold, or of their lengths: each function answers for all of them. It returns
+//! 0 ([`OK`]) or the number of a [`Refusal`](crate::Refusal), and writes what it answers beside the number into `answer`: the number of
+//! values first, then the values, then zeros. Where mount words or answer words are too short, or the mount words hold no mount
+//! value, the number is 10 and nothing is written.
+//!
+//! [`Volume`](crate::Volume) has the same functions with types; most programs want that. Codes in words are those of the
+//! enums [`FileKind`](crate::FileKind), [`CommandKind`](crate::CommandKind), [`Condition`](crate::Condition),
+//! [`Access`](crate::Access) and [`Policy`](crate::Policy).
+
+/// A slice as C takes it: a pointer, and the number of elements behind it.
+trait Lent {
+    type Pointer;
+    fn lend(self) -> (Self::Pointer, usize);
+}
+
+impl<T> Lent for &[T] {
+    type Pointer = *const T;
+    fn lend(self) -> (*const T, usize) {
+        (self.as_ptr(), self.len())
+    }
+}
+
+impl<T> Lent for &mut [T] {
+    type Pointer = *mut T;
+    fn lend(self) -> (*mut T, usize) {
+        (self.as_mut_ptr(), self.len())
+    }
+}
+
+/// Declares functions of the archive and defines a safe one over each, from one signature. A parameter in brackets is a
+/// slice: the archive's function takes it as pointer and length.
+macro_rules! functions {
+    ($(
+        $(#[$about:meta])*
+        fn $name:ident = $symbol:ident($(
+            $($number:ident: $plain:ty)? $([$slice:ident: $lent:ty])?
+        ),*) -> $result:ty;
+    )*) => {
+        mod archive {
+            use super::Lent;
+            extern "C" {
+                $(pub fn $symbol($($(_: $plain,)? $(_: <$lent as Lent>::Pointer, _: usize,)?)*) -> $result;)*
+            }
+        }
+        $(
+            $(#[$about])*
+            #[inline]
+            #[allow(clippy::too_many_arguments)]
+            pub fn $name($($($number: $plain,)? $($slice: $lent,)?)*) -> $result {
+                $($(let $slice = $slice.lend();)?)*
+                // SAFETY: each pointer is that of a slice with its own length, so it is aligned and not null; what is written
+                // is borrowed for this call alone; and the archive's functions touch nothing outside, whatever is in there.
+                unsafe { archive::$symbol($($($number,)? $($slice.0, $slice.1,)?)*) }
+            }
+        )*
+        /// The name of each function in the archive and its parameters, for the test that holds them to the header.
+        #[cfg(test)]
+        pub(crate) const FUNCTIONS: &[(&str, &[&str], &str)] = &[$((
+            stringify!($symbol),
+            &[$($(stringify!($number: $plain))? $(stringify!($slice: $lent))?),*],
+            stringify!($result),
+        )),*];
+    };
+}
+
+functions! {
+    /// Mounts: fills the front of both tables with a row for each file, and the mount words. Answers 0 with the numbers of
+    /// cnv and of seq files; or 10, 20 to 30. Refused by 20 to 30, the tables are as they were and the mount words are all 0.
+    fn mount = zonefs_mount(
+        block: u64,
+        [superblock: &[u8]],
+        [options: &[u8]],
+        [report: &[u8]],
+        [cnv: &mut [u64]],
+        [seq: &mut [u64]],
+        [mount: &mut [u64]],
+        [answer: &mut [u64]],
+    ) -> u64;
+
+    /// Finds a name such as `seq/12`. Answers 0 with the kind and the number of the file; or 1, 10.
+    fn find = zonefs_find(
+        [mount: &[u64]],
+        [cnv: &[u64]],
+        [seq: &[u64]],
+        [name: &[u8]],
+        [answer: &mut [u64]],
+    ) -> u64;
+
+    /// Shows a file. Answers 0 with start in sectors, capacity, size, condition, access and the mode shown; or 1, 10.
+    fn show = zonefs_show(
+        [mount: &[u64]],
+        [cnv: &[u64]],
+        [seq: &[u64]],
+        kind: u32,
+        number: u32,
+        [answer: &mut [u64]],
+    ) -> u64;
+
+    /// Decides a read. Answers 0 with [`AT_ONCE`] value, the count, which is 0; or with [`COMMANDED`] values, the command
+    /// that the disk has to do, its byte address and its byte length; or 1, 2, 4, 5, 10.
+    fn read = zonefs_read(
+        [mount: &mut [u64]],
+        [cnv: &[u64]],
+        [seq: &[u64]],
+        kind: u32,
+        number: u32,
+        offset: u64,
+        length: u64,
+        [answer: &mut [u64]],
+    ) -> u64;
+
+    /// Decides a write. Answers as [`read`] does, also 3 and 6.
+    fn write = zonefs_write(
+        [mount: &mut [u64]],
+        [cnv: &[u64]],
+        [seq: &[u64]],
+        kind: u32,
+        number: u32,
+        offset: u64,
+        length: u64,
+        [answer: &mut [u64]],
+    ) -> u64;
+
+    /// Decides a truncation of a seq file, to the size 0 or to the capacity. Answers as [`read`] does, also 3, never 5.
+    fn truncate = zonefs_truncate(
+        [mount: &mut [u64]],
+        [cnv: &[u64]],
+        [seq: &[u64]],
+        kind: u32,
+        number: u32,
+        size: u64,
+        [answer: &mut [u64]],
+    ) -> u64;
+
+    /// Decides a flush. Answers 0 with [`COMMANDED`] values; or 1 to 4, 10.
+    fn flush = zonefs_flush(
+        [mount: &mut [u64]],
+        [cnv: &[u64]],
+        [seq: &[u64]],
+        kind: u32,
+        number: u32,
+        [answer: &mut [u64]],
+    ) -> u64;
+
+    /// The outstanding command was done. Answers 0 with the bytes read or written, else 0; or 8, 10.
+    fn complete = zonefs_complete(
+        [mount: &mut [u64]],
+        [cnv: &mut [u64]],
+        [seq: &mut [u64]],
+        [answer: &mut [u64]],
+    ) -> u64;
+
+    /// The outstanding command failed. `record` is that of the zone at the command's address as it is now, and
+    /// `capacity_given` is 0 where it states no capacity. Answers 7 with the file's size now; or 8, 9, 10.
+    fn fail = zonefs_fail(
+        [mount: &mut [u64]],
+        [cnv: &mut [u64]],
+        [seq: &mut [u64]],
+        [record: &[u8]],
+        capacity_given: u32,
+        [answer: &mut [u64]],
+    ) -> u64;
+
+    /// The checksum of bytes: reflected CRC-32, polynomial `0xEDB88320`, start all ones, no final inversion. A super block's is
+    /// that of its 4,096 bytes with the checksum field, bytes 4 to 7, zero.
+    fn checksum = zonefs_checksum([bytes: &[u8]]) -> u32;
+}
+
+/// Defines constants, and lists them for the test that holds them to the header.
+macro_rules! constants {
+    ($($(#[$about:meta])* $name:ident: $type:ty = $value:literal;)*) => {
+        $($(#[$about])* pub const $name: $type = $value;)*
+        #[cfg(test)]
+        pub(crate) const CONSTANTS: &[(&str, u64)] = &[$((stringify!($name), $name as u64)),*];
+    };
+}
+
+constants! {
+    /// The number of an answer that refuses nothing.
+    OK: u64 = 0;
+
+    /// The words of a mount value.
+    MOUNT_WORDS: usize = 16;
+    /// The words of a row.
+    ROW_WORDS: usize = 5;
+    /// The words of an answer.
+    ANSWER_WORDS: usize = 7;
+
+    /// The most files of a kind: tables of this many rows are always long enough.
+    MOST_FILES: usize = 1022;
+    /// The bytes of a super block.
+    SUPER_BYTES: usize = 4096;
+    /// The bytes of a report's header.
+    HEADER_BYTES: usize = 16;
+    /// The bytes of a zone record.
+    ZONE_BYTES: usize = 64;
+    /// The most zones of a report.
+    MOST_ZONES: usize = 1023;
+
+    /// A report: where it begins, 8 bytes, 0. Numbers in reports and records are little-endian, positions in sectors.
+    REPORT_SECTOR: usize = 0;
+    /// A report: how many zones follow, 4 bytes.
+    REPORT_COUNT: usize = 8;
+    /// A report: [`CAPACITY_GIVEN`] or 0, 4 bytes.
+    REPORT_FLAGS: usize = 12;
+    /// The only flag of a report.
+    CAPACITY_GIVEN: u32 = 1;
+    /// A zone record: the start, 8 bytes.
+    RECORD_START: usize = 0;
+    /// A zone record: the length, 8 bytes.
+    RECORD_LENGTH: usize = 8;
+    /// A zone record: the write pointer, 8 bytes.
+    RECORD_POINTER: usize = 16;
+    /// A zone record: 1 conventional, 2 or 3 sequential; one byte.
+    RECORD_TYPE: usize = 24;
+    /// A zone record: 0 no pointer; 1 empty, 2 or 3 open, 4 closed, 14 full; 13 read-only, 15 offline; one byte.
+    RECORD_CONDITION: usize = 25;
+    /// A zone record: the capacity, 8 bytes. Without [`CAPACITY_GIVEN`] it isn't looked at, and the capacity is the length.
+    RECORD_CAPACITY: usize = 32;
+
+    /// How many values follow in an answer.
+    ANSWER_VALUES: usize = 0;
+    /// A call answered at once, or a completion: the bytes read or written.
+    ANSWER_COUNT: usize = 1;
+    /// A call with a command: which.
+    ANSWER_COMMAND: usize = 1;
+    /// A call with a command: its byte address.
+    ANSWER_ADDRESS: usize = 2;
+    /// A call with a command: its byte length, 0 but for reads and writes.
+    ANSWER_LENGTH: usize = 3;
+    /// A failure digested, number 7: the file's size now.
+    ANSWER_NEW_SIZE: usize = 1;
+    /// A mount: how many cnv files there are.
+    ANSWER_CNV_FILES: usize = 1;
+    /// A mount: how many seq files there are.
+    ANSWER_SEQ_FILES: usize = 2;
+    /// A mount refused by 29: the lowest number of a bad zone.
+    ANSWER_ZONE: usize = 1;
+    /// A name found: the file's kind.
+    ANSWER_KIND: usize = 1;
+    /// A name found: the file's number.
+    ANSWER_NUMBER: usize = 2;
+    /// A file shown: its first sector.
+    ANSWER_START: usize = 1;
+    /// A file shown: its capacity in bytes.
+    ANSWER_CAPACITY: usize = 2;
+    /// A file shown: its size in bytes.
+    ANSWER_SIZE: usize = 3;
+    /// A file shown: its condition.
+    ANSWER_CONDITION: usize = 4;
+    /// A file shown: its access.
+    ANSWER_ACCESS: usize = 5;
+    /// A file shown: the permission bits.
+    ANSWER_MODE: usize = 6;
+
+    /// How many values a call has that is answered at once.
+    AT_ONCE: u64 = 1;
+    /// How many values a call has whose command is to be done.
+    COMMANDED: u64 = 3;
+
+    /// A row: the first sector.
+    ROW_START: usize = 0;
+    /// A row: the capacity in bytes.
+    ROW_CAPACITY: usize = 1;
+    /// A row: the size in bytes.
+    ROW_SIZE: usize = 2;
+    /// A row: the condition.
+    ROW_CONDITION: usize = 3;
+    /// A row: the access.
+    ROW_ACCESS: usize = 4;
+
+    /// A mount value: the block, 512 or 4096.
+    MOUNT_BLOCK: usize = 0;
+    /// A mount value: how many cnv files there are. 32 bits, as the four after it.
+    MOUNT_CNV_FILES: usize = 1;
+    /// A mount value: how many seq files there are.
+    MOUNT_SEQ_FILES: usize = 2;
+    /// A mount value: the owner.
+    MOUNT_OWNER: usize = 3;
+    /// A mount value: the group.
+    MOUNT_GROUP: usize = 4;
+    /// A mount value: the mode.
+    MOUNT_MODE: usize = 5;
+    /// A mount value: what a failure does.
+    MOUNT_POLICY: usize = 6;
+    /// A mount value: bytes 0 to 7 of the uuid, the first lowest.
+    MOUNT_UUID_LOW: usize = 7;
+    /// A mount value: bytes 8 to 15 of the uuid.
+    MOUNT_UUID_HIGH: usize = 8;
+    /// A mount value: 1 where the mount is read-only.
+    MOUNT_READ_ONLY: usize = 9;
+    /// A mount value: 1 where a command is outstanding.
+    MOUNT_OUTSTANDING: usize = 10;
+    /// A mount value: the kind of the outstanding command's file.
+    MOUNT_HELD_KIND: usize = 11;
+    /// A mount value: the number of the outstanding command's file, 32 bits.
+    MOUNT_HELD_NUMBER: usize = 12;
+    /// A mount value: which command is outstanding.
+    MOUNT_HELD_COMMAND: usize = 13;
+    /// A mount value: the outstanding command's byte address.
+    MOUNT_HELD_ADDRESS: usize = 14;
+    /// A mount value: the outstanding command's byte length.
+    MOUNT_HELD_LENGTH: usize = 15;
+}

@@ -1,0 +1,102 @@
+//! The reference's values as words, and words as the reference's values.
+
+use reference::player::types::{Access, Command, Condition, FileKind, Held, Mount, Operation, Policy, Row};
+use zonefs::words::{MOUNT_WORDS, ROW_WORDS};
+
+pub const KINDS: [FileKind; 2] = [FileKind::Conventional, FileKind::Sequential];
+const CONDITIONS: [Condition; 3] = [Condition::Healthy, Condition::ReadOnly, Condition::Offline];
+const ACCESSES: [Access; 3] = [Access::None, Access::Read, Access::Write];
+const POLICIES: [Policy; 4] =
+    [Policy::RemountReadOnly, Policy::ZoneReadOnly, Policy::ZoneOffline, Policy::Repair];
+const OPERATIONS: [Operation; 5] =
+    [Operation::Read, Operation::Write, Operation::Reset, Operation::Finish, Operation::Flush];
+
+pub fn code<T: PartialEq>(items: &[T], item: &T) -> u64 {
+    items.iter().position(|other| other == item).expect("each value has its code") as u64
+}
+
+/// The item of a code; None for a code that no value has.
+pub fn coded<T: Copy>(items: &[T], code: u64) -> Option<T> {
+    items.get(usize::try_from(code).ok()?).copied()
+}
+
+pub fn row_words(row: &Row) -> [u64; ROW_WORDS] {
+    [row.start, row.capacity, row.size, code(&CONDITIONS, &row.condition), code(&ACCESSES, &row.access)]
+}
+
+pub fn table_words(rows: &[Row]) -> Vec<u64> {
+    rows.iter().flat_map(row_words).collect()
+}
+
+/// A row from its words. One whose codes are none is as impossible as one that starts at 0.
+fn row_of(words: &[u64]) -> Row {
+    match (coded(&CONDITIONS, words[3]), coded(&ACCESSES, words[4])) {
+        (Some(condition), Some(access)) => {
+            Row { start: words[0], capacity: words[1], size: words[2], condition, access }
+        }
+        _ => Row::EMPTY,
+    }
+}
+
+pub fn rows_of(words: &[u64]) -> Vec<Row> {
+    words.chunks_exact(ROW_WORDS).map(row_of).collect()
+}
+
+pub fn command_values(command: &Command) -> [u64; 3] {
+    [code(&OPERATIONS, &command.operation), command.address, command.length]
+}
+
+pub fn mount_words(mount: &Mount) -> Vec<u64> {
+    let half = |at: usize| u64::from_le_bytes(mount.uuid[at..at + 8].try_into().expect("eight bytes"));
+    let mut words = vec![
+        mount.block,
+        mount.cnv_files as u64,
+        mount.seq_files as u64,
+        u64::from(mount.owner),
+        u64::from(mount.group),
+        u64::from(mount.mode),
+        code(&POLICIES, &mount.policy),
+        half(0),
+        half(8),
+        u64::from(mount.read_only),
+        u64::from(mount.held.is_some()),
+    ];
+    match &mount.held {
+        Some(held) => {
+            words.extend([code(&KINDS, &held.kind), u64::from(held.number)]);
+            words.extend(command_values(&held.command));
+        }
+        None => words.extend([0; 5]),
+    }
+    words
+}
+
+/// The mount value of words; None where they hold none.
+pub fn mount_of(words: &[u64]) -> Option<Mount> {
+    if words.len() < MOUNT_WORDS {
+        return None;
+    }
+    let short = |at: usize| u32::try_from(words[at]).ok();
+    let mark = |at: usize| coded(&[false, true], words[at]);
+    let operation = coded(&OPERATIONS, words[13])?;
+    let held = Held {
+        kind: coded(&KINDS, words[11])?,
+        number: short(12)?,
+        command: Command { operation, address: words[14], length: words[15] },
+    };
+    let mut uuid = [0; 16];
+    uuid[..8].copy_from_slice(&words[7].to_le_bytes());
+    uuid[8..].copy_from_slice(&words[8].to_le_bytes());
+    Some(Mount {
+        block: words[0],
+        cnv_files: short(1)? as usize,
+        seq_files: short(2)? as usize,
+        owner: short(3)?,
+        group: short(4)?,
+        mode: short(5)?,
+        policy: coded(&POLICIES, words[6])?,
+        read_only: mark(9)?,
+        held: mark(10)?.then_some(held),
+        uuid,
+    })
+}

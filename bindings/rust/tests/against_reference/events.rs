@@ -1,0 +1,210 @@
+//! What is lent to the library, what it is asked, and what the reference expects.
+
+use reference::generator::random::Random;
+use reference::player::calls::{Call, Reply, Request};
+use reference::player::mount::Input;
+use reference::player::tape::Record;
+use reference::player::types::{FileKind, Refusal, Row, Volume};
+use zonefs::words::{self, ANSWER_WORDS, MOUNT_WORDS, ROW_WORDS};
+
+use crate::convert::{
+    code, coded, command_values, mount_of, mount_words, row_words, rows_of, table_words, KINDS,
+};
+use crate::typed;
+
+/// What the library is lent from call to call.
+#[derive(Clone, Debug, PartialEq, Eq)]
+pub struct Lent {
+    pub mount: Vec<u64>,
+    pub cnv: Vec<u64>,
+    pub seq: Vec<u64>,
+    pub answer: Vec<u64>,
+}
+
+impl Lent {
+    /// Words for `rows` rows of each kind, filled with whatever.
+    pub fn any(random: &mut Random, rows: usize) -> Lent {
+        let mut words = |count: usize| (0..count).map(|_| random.word()).collect::<Vec<u64>>();
+        Lent {
+            mount: words(MOUNT_WORDS),
+            cnv: words(rows * ROW_WORDS),
+            seq: words(rows * ROW_WORDS),
+            answer: words(ANSWER_WORDS),
+        }
+    }
+
+    /// What the reference makes of the same words; None where they hold no mount value.
+    fn volume(&self) -> Option<Volume> {
+        Some(Volume { mount: mount_of(&self.mount)?, cnv: rows_of(&self.cnv), seq: rows_of(&self.seq) })
+    }
+}
+
+/// One thing to ask of the library, or to tell it.
+#[derive(Clone, Debug)]
+pub enum Event {
+    Call(u32, u32, Request),
+    Good,
+    Failed(Vec<u8>, u32),
+    Find(Vec<u8>),
+    Show(u32, u32),
+}
+
+fn ask(lent: &mut Lent, event: &Event) -> u64 {
+    let Lent { mount, cnv, seq, answer } = lent;
+    match event {
+        Event::Call(kind, number, Request::Read { offset, length }) => {
+            words::read(mount, cnv, seq, *kind, *number, *offset, *length, answer)
+        }
+        Event::Call(kind, number, Request::Write { offset, length }) => {
+            words::write(mount, cnv, seq, *kind, *number, *offset, *length, answer)
+        }
+        Event::Call(kind, number, Request::Truncate { size }) => {
+            words::truncate(mount, cnv, seq, *kind, *number, *size, answer)
+        }
+        Event::Call(kind, number, Request::Flush) => words::flush(mount, cnv, seq, *kind, *number, answer),
+        Event::Good => words::complete(mount, cnv, seq, answer),
+        Event::Failed(record, given) => words::fail(mount, cnv, seq, record, *given, answer),
+        Event::Find(name) => words::find(mount, cnv, seq, name, answer),
+        Event::Show(kind, number) => words::show(mount, cnv, seq, *kind, *number, answer),
+    }
+}
+
+impl Event {
+    /// What a record of a tape asks; None for one of the mount.
+    pub fn of_record(record: &Record, capacity_given: impl FnOnce() -> u32) -> Option<Event> {
+        match record {
+            Record::Call(call) => Some(Event::Call(u32::from(call.kind), call.number, call.request())),
+            Record::Good => Some(Event::Good),
+            Record::Failed(zone) => Some(Event::Failed(zone.to_vec(), capacity_given())),
+            Record::Block(_) | Record::SuperBlock(_) | Record::Report(_) | Record::Options(_) => None,
+        }
+    }
+}
+
+/// A number and its values.
+pub type Answer = (u64, Vec<u64>);
+
+fn refused(refusal: Refusal) -> Answer {
+    let values = if let Refusal::BadZone(zone) = refusal { vec![zone as u64] } else { vec![] };
+    (u64::from(refusal.number()), values)
+}
+
+/// The refusal of a kind that there isn't: 10 for the counts comes before 1.
+fn no_kind(volume: &Volume) -> Refusal {
+    volume.checked_row(FileKind::Conventional, u32::MAX).expect_err("no file has this number")
+}
+
+fn expect(volume: &mut Volume, event: &Event) -> Answer {
+    let kind_of = |volume: &Volume, kind: u32| coded(&KINDS, u64::from(kind)).ok_or_else(|| no_kind(volume));
+    let result = match event {
+        Event::Call(kind, number, request) => kind_of(volume, *kind)
+            .and_then(|kind| volume.call(&Call { kind, number: *number, request: *request }))
+            .map(|reply| match reply {
+                Reply::Done(count) => (0, vec![count]),
+                Reply::Issued(command) => (0, command_values(&command).to_vec()),
+            }),
+        Event::Good => volume.succeed().map(|count| (0, vec![count])),
+        Event::Failed(record, given) => volume.fail(record, *given != 0).map(|size| (7, vec![size])),
+        Event::Find(name) => {
+            volume.find(name).map(|(kind, number)| (0, vec![code(&KINDS, &kind), u64::from(number)]))
+        }
+        Event::Show(kind, number) => kind_of(volume, *kind)
+            .and_then(|kind| volume.show(kind, *number))
+            .map(|(row, mode)| (0, [&row_words(&row)[..], &[u64::from(mode)]].concat())),
+    };
+    result.unwrap_or_else(refused)
+}
+
+/// The answer words after these values.
+fn answer_after(before: &[u64], values: &[u64]) -> Vec<u64> {
+    let mut after = vec![0; ANSWER_WORDS];
+    after[0] = values.len() as u64;
+    after[1..=values.len()].copy_from_slice(values);
+    after.extend(&before[ANSWER_WORDS..]);
+    after
+}
+
+/// A row of the reference put back over words, where it changed. (Words that are no row stay as they are.)
+fn table_after(words: &[u64], before: &[Row], after: &[Row]) -> Vec<u64> {
+    let mut words = words.to_vec();
+    for (number, (old, new)) in before.iter().zip(after).enumerate() {
+        if old != new {
+            words[number * ROW_WORDS..(number + 1) * ROW_WORDS].copy_from_slice(&row_words(new));
+        }
+    }
+    words
+}
+
+/// Asks both, and compares everything. Gives the number.
+pub fn check(lent: &mut Lent, event: &Event) -> u64 {
+    let before = lent.clone();
+    let number = ask(lent, event);
+    let mut expected = before.clone();
+    let volume = if before.answer.len() < ANSWER_WORDS { None } else { before.volume() };
+    let expected_number = match volume {
+        None => 10,
+        Some(old) => {
+            let mut new = old.clone();
+            let (number, values) = expect(&mut new, event);
+            expected.answer = answer_after(&before.answer, &values);
+            expected.cnv = table_after(&before.cnv, &old.cnv, &new.cnv);
+            expected.seq = table_after(&before.seq, &old.seq, &new.seq);
+            if !matches!(event, Event::Find(_) | Event::Show(..)) {
+                expected.mount.splice(..MOUNT_WORDS, mount_words(&new.mount));
+            }
+            number
+        }
+    };
+    assert_eq!(number, expected_number, "{event:?} on {:?}", before.mount);
+    assert_eq!(*lent, expected, "{event:?}");
+    typed::check(&before, event, number, lent);
+    number
+}
+
+pub fn ask_mount(lent: &mut Lent, block: u64, input: &Input) -> u64 {
+    let Input { super_block, report, options, .. } = input;
+    words::mount(
+        block,
+        super_block,
+        options,
+        report,
+        &mut lent.cnv,
+        &mut lent.seq,
+        &mut lent.mount,
+        &mut lent.answer,
+    )
+}
+
+/// Mounts both, and compares everything. Gives the number.
+pub fn check_mount(lent: &mut Lent, input: &Input) -> u64 {
+    let before = lent.clone();
+    let number = ask_mount(lent, u64::from(input.block), input);
+    let mut expected = before.clone();
+    if before.mount.len() < MOUNT_WORDS || before.answer.len() < ANSWER_WORDS {
+        assert_eq!(number, 10);
+        assert_eq!(*lent, expected);
+        return number;
+    }
+    let mut cnv = vec![Row::EMPTY; before.cnv.len() / ROW_WORDS];
+    let mut seq = vec![Row::EMPTY; before.seq.len() / ROW_WORDS];
+    let (expected_number, values) = match reference::player::mount::mount(input, &mut cnv, &mut seq) {
+        Ok(mount) => {
+            let fill = |words: &mut Vec<u64>, rows: &[Row]| {
+                words.splice(..rows.len() * ROW_WORDS, table_words(rows));
+            };
+            fill(&mut expected.cnv, &cnv[..mount.cnv_files]);
+            fill(&mut expected.seq, &seq[..mount.seq_files]);
+            expected.mount.splice(..MOUNT_WORDS, mount_words(&mount));
+            (0, vec![mount.cnv_files as u64, mount.seq_files as u64])
+        }
+        Err(refusal) => {
+            expected.mount.splice(..MOUNT_WORDS, [0; MOUNT_WORDS]);
+            refused(refusal)
+        }
+    };
+    expected.answer = answer_after(&before.answer, &values);
+    assert_eq!(number, expected_number);
+    assert_eq!(*lent, expected);
+    typed::check_mount(&before, input, number, lent);
+    number
+}

@@ -1,0 +1,204 @@
+//! The library, linked into this process, against the reference on random inputs, call by call: number, values, mount words and both
+//! tables; and the typed functions against those on words.
+
+mod convert;
+mod events;
+mod typed;
+
+use events::{ask_mount, check, check_mount, Event, Lent};
+use reference::generator::generate;
+use reference::generator::random::Random;
+use reference::player::calls::Request;
+use reference::player::mount::Input;
+use reference::player::play::read_input;
+use reference::player::tape::{Next, Reader};
+use reference::player::types::MAX_FILES;
+use zonefs::words::ANSWER_WORDS;
+
+/// The mount of a tape; None if it isn't there whole.
+fn input_of(reader: &mut Reader) -> Option<Input> {
+    read_input(reader).map(|(_, input)| input)
+}
+
+fn any_name(random: &mut Random) -> Vec<u8> {
+    let mut name = random.pick(&[&b"cnv/"[..], b"seq/", b"seq", b"cnv/0", b""]).to_vec();
+    for _ in 0..random.below(4) {
+        name.push(random.pick(b"0123456789 /a"));
+    }
+    name
+}
+
+/// Calls and completions of any kind on the words as they are.
+fn any_event(random: &mut Random) -> Event {
+    let kind = random.below(3) as u32;
+    let number = random.pick(&[0, 0, 0, 1, 1, 2, 3, 7, u32::MAX]);
+    let amount = |random: &mut Random| match random.below(4) {
+        0 => 0,
+        1 => random.below(64) * 512,
+        2 => random.extreme(),
+        _ => random.below(1 << 20),
+    };
+    match random.below(8) {
+        0 => Event::Call(kind, number, Request::Read { offset: amount(random), length: amount(random) }),
+        1 => Event::Call(kind, number, Request::Write { offset: amount(random), length: amount(random) }),
+        2 => Event::Call(kind, number, Request::Truncate { size: amount(random) }),
+        3 => Event::Call(kind, number, Request::Flush),
+        4 => Event::Good,
+        5 => {
+            let mut record = vec![0; random.pick(&[64, 64, 64, 0, 63, 65])];
+            random.fill(&mut record);
+            Event::Failed(record, random.below(2) as u32)
+        }
+        6 => Event::Find(any_name(random)),
+        _ => Event::Show(kind, number),
+    }
+}
+
+/// What the next record of a tape asks, if there is one.
+fn tape_event(random: &mut Random, reader: &mut Reader) -> Option<Event> {
+    let Next::Record(record) = reader.read() else { return None };
+    Event::of_record(&record, || random.below(2) as u32)
+}
+
+/// How often each number was answered.
+#[derive(Default)]
+struct Seen([u64; 31]);
+
+impl Seen {
+    fn note(&mut self, number: u64) {
+        self.0[number as usize] += 1;
+    }
+
+    fn total(&self) -> u64 {
+        self.0.iter().sum()
+    }
+
+    fn all_of(&self, numbers: &[usize]) {
+        for &number in numbers {
+            assert!(self.0[number] > 0, "the inputs never led to {number}");
+        }
+    }
+}
+
+/// The events of a tape after its mount.
+fn play(lent: &mut Lent, reader: &mut Reader, seen: &mut Seen) {
+    while let Next::Record(record) = reader.read() {
+        let Some(event) = Event::of_record(&record, || 1) else { return };
+        seen.note(check(lent, &event));
+    }
+}
+
+#[test]
+fn tapes_give_the_same() {
+    let mut seen = Seen::default();
+    for index in 0..3_000 {
+        let bytes = generate(1, index).bytes;
+        let mut reader = Reader::new(&bytes);
+        let Some(input) = input_of(&mut reader) else { continue };
+        let mut random = Random::new(2, index);
+        let rows = random.pick(&[MAX_FILES, 60, 60, 60, 60, 20, 2, 0]);
+        let mut lent = Lent::any(&mut random, rows);
+        let number = check_mount(&mut lent, &input);
+        seen.note(number);
+        if number == 0 {
+            play(&mut lent, &mut reader, &mut seen);
+        }
+    }
+    seen.all_of(&[0, 1, 2, 3, 4, 5, 6, 7, 8, 9]);
+    println!("tapes: {} mounts, calls and completions, all as the reference has them", seen.total());
+    seen.all_of(&[20, 22, 23, 24, 25, 26, 27, 28, 29, 30]);
+}
+
+/// Changes a word or a length of what is lent.
+fn damage(random: &mut Random, lent: &mut Lent) {
+    let table = random.pick(&[0, 1, 2, 2, 2]);
+    let words = match table {
+        0 => &mut lent.cnv,
+        1 => &mut lent.seq,
+        _ => &mut lent.mount,
+    };
+    if words.is_empty() {
+        return;
+    }
+    let at = random.below(words.len().min(20) as u64) as usize;
+    words[at] = match random.below(5) {
+        0 => random.below(6),
+        1 => random.extreme(),
+        2 => words[at].wrapping_add(1),
+        3 => words[at] ^ (1 << random.below(64)),
+        _ => random.below(1 << 33),
+    };
+}
+
+#[test]
+fn any_words_give_the_same() {
+    let mut seen = Seen::default();
+    let tapes: Vec<Vec<u8>> = (0..500).map(|index| generate(4, index).bytes).collect();
+    for index in 0..30_000 {
+        let mut random = Random::new(3, index as u64);
+        let mut reader = Reader::new(&tapes[index % tapes.len()]);
+        let Some(input) = input_of(&mut reader) else { continue };
+        let mut lent = Lent::any(&mut random, 30);
+        if check_mount(&mut lent, &input) != 0 {
+            continue;
+        }
+        let steps = random.below(30);
+        for _ in 0..steps {
+            if random.percent(30) {
+                damage(&mut random, &mut lent);
+            }
+            let from_tape = if random.percent(60) { tape_event(&mut random, &mut reader) } else { None };
+            let event = from_tape.unwrap_or_else(|| any_event(&mut random));
+            seen.note(check(&mut lent, &event));
+        }
+    }
+    seen.all_of(&[0, 1, 2, 3, 4, 5, 6, 7, 8, 9, 10]);
+    println!("any words: {} calls and completions, all as the reference has them", seen.total());
+    assert!(seen.total() > 100_000);
+}
+
+#[test]
+fn short_words_write_nothing() {
+    for index in 0..2_000 {
+        let mut random = Random::new(5, index);
+        let bytes = generate(6, index % 200).bytes;
+        let Some(input) = input_of(&mut Reader::new(&bytes)) else { continue };
+        let mut lent = Lent::any(&mut random, 30);
+        let longer = random.below(3) as usize;
+        lent.answer.extend(vec![7; longer]);
+        lent.mount.extend(vec![7; longer]);
+        check_mount(&mut lent, &input);
+        let shorter = random.below(ANSWER_WORDS as u64) as usize;
+        if random.percent(50) {
+            lent.answer.truncate(shorter);
+        } else {
+            lent.mount.truncate(shorter * 2);
+        }
+        let before = lent.clone();
+        assert_eq!(check(&mut lent, &any_event(&mut random)), 10);
+        assert_eq!(check_mount(&mut lent, &input), 10);
+        assert_eq!(lent, before);
+    }
+}
+
+#[test]
+fn blocks_above_sixteen_bits_are_refused() {
+    let bytes =
+        (0..).map(|index| generate(1, index).bytes).find_map(|tape| input_of(&mut Reader::new(&tape)));
+    let input = bytes.expect("some tape has its four records");
+    let mut random = Random::new(7, 0);
+    for block in [0, 511, 65_536 + 512, (1 << 32) + 4096, u64::MAX] {
+        let mut lent = Lent::any(&mut random, 30);
+        assert_eq!(ask_mount(&mut lent, block, &input), 20);
+    }
+}
+
+#[test]
+fn checksums_are_the_same() {
+    for index in 0..20_000 {
+        let mut random = Random::new(8, index);
+        let mut bytes = vec![0; random.below(300) as usize];
+        random.fill(&mut bytes);
+        assert_eq!(zonefs::checksum(&bytes), reference::player::checksum::checksum(&bytes));
+    }
+}

@@ -1,0 +1,134 @@
+//! The typed functions answer what the words do, and leave the same words.
+
+use reference::player::calls::Request;
+use reference::player::mount::Input;
+use zonefs::words::{ANSWER_VALUES, ANSWER_WORDS, MOUNT_WORDS};
+use zonefs::{FileId, FileKind, MountValue, Refusal, Reply, RowWords, Source, Volume};
+
+use crate::convert::mount_of;
+use crate::events::{Answer, Event, Lent};
+
+type Owned = Volume<Vec<RowWords>>;
+
+/// None where the words are shorter or longer than the types have them, which only words can be.
+fn volume_of(lent: &Lent) -> Option<Owned> {
+    let mount = lent.mount.as_slice().try_into().ok()?;
+    (lent.answer.len() >= ANSWER_WORDS).then(|| Volume::from_parts(mount, rows(&lent.cnv), rows(&lent.seq)))
+}
+
+fn rows(words: &[u64]) -> Vec<RowWords> {
+    let (rows, rest) = words.as_chunks();
+    assert!(rest.is_empty(), "these tests lend whole rows");
+    rows.to_vec()
+}
+
+fn refused(refusal: Refusal) -> Answer {
+    let values = match refusal {
+        Refusal::Failed { size } => vec![size],
+        Refusal::BadZone { zone } => vec![zone],
+        _ => vec![],
+    };
+    (refusal.number(), values)
+}
+
+fn replied(reply: Reply) -> Answer {
+    match reply {
+        Reply::Done(count) => (0, vec![count]),
+        Reply::Command(command) => (0, vec![command.kind.code(), command.address, command.length]),
+    }
+}
+
+fn call(volume: &mut Owned, file: FileId, request: &Request) -> Result<Reply, Refusal> {
+    match *request {
+        Request::Read { offset, length } => volume.read(file, offset, length),
+        Request::Write { offset, length } => volume.write(file, offset, length),
+        Request::Truncate { size } => volume.truncate(file, size),
+        Request::Flush => volume.flush(file),
+    }
+}
+
+/// None for a kind that there isn't, as no type has it.
+fn ask(volume: &mut Owned, event: &Event) -> Option<Answer> {
+    let file = |kind: u32, number: u32| Some(FileId { kind: FileKind::from_code(u64::from(kind))?, number });
+    let result = match event {
+        Event::Call(kind, number, request) => call(volume, file(*kind, *number)?, request).map(replied),
+        Event::Good => volume.complete().map(|count| (0, vec![count])),
+        Event::Failed(record, given) => Err(volume.fail(record, *given != 0)),
+        Event::Find(name) => {
+            volume.find(name).map(|file| (0, vec![file.kind.code(), u64::from(file.number)]))
+        }
+        Event::Show(kind, number) => volume.show(file(*kind, *number)?).map(|file| {
+            let codes = [file.condition.code(), file.access.code()];
+            (0, vec![file.start, file.capacity, file.size, codes[0], codes[1], u64::from(file.mode)])
+        }),
+    };
+    Some(result.unwrap_or_else(refused))
+}
+
+/// What the words answered; they hold no values where they answer 10 without writing anything.
+fn answered(number: u64, before: &Lent, after: &Lent) -> Answer {
+    if number == 10 && before.answer == after.answer {
+        return (number, vec![]);
+    }
+    (number, after.answer[1..=after.answer[ANSWER_VALUES] as usize].to_vec())
+}
+
+/// `after` is what the words left of `before`, and `number` what they answered.
+pub fn check(before: &Lent, event: &Event, number: u64, after: &Lent) {
+    let Some(mut volume) = volume_of(before) else { return };
+    check_value(&volume);
+    let Some(answer) = ask(&mut volume, event) else { return };
+    assert_eq!(answer, answered(number, before, after), "{event:?}");
+    assert_eq!(Some(volume), volume_of(after), "{event:?}");
+}
+
+pub fn check_mount(before: &Lent, input: &Input, number: u64, after: &Lent) {
+    if before.mount.len() != MOUNT_WORDS {
+        return;
+    }
+    let Input { super_block, report, options, .. } = input;
+    let source = Source { block: u64::from(input.block), super_block, options, report };
+    let (mut cnv, mut seq) = (rows(&before.cnv), rows(&before.seq));
+    let mounted = Volume::mount(&source, &mut cnv, &mut seq).map(|volume| *volume.mount_words());
+    let answer = match mounted {
+        Ok(mount) => {
+            assert_eq!(after.mount, mount);
+            (0, MountValue::from_words(&mount).map(counts).expect("a mount gives a mount value"))
+        }
+        Err(refusal) => refused(refusal),
+    };
+    assert_eq!(answer, answered(number, before, after));
+    assert_eq!((cnv, seq), (rows(&after.cnv), rows(&after.seq)));
+}
+
+fn counts(value: MountValue) -> Vec<u64> {
+    vec![u64::from(value.cnv_files), u64::from(value.seq_files)]
+}
+
+/// The mount value as the tests themselves read it from the words.
+fn check_value(volume: &Owned) {
+    let value = volume.value();
+    let expected = mount_of(volume.mount_words());
+    assert_eq!(value.is_some(), expected.is_some());
+    let (Some(value), Some(expected)) = (value, expected) else { return };
+    assert_eq!(
+        (value.block, counts(value), value.owner, value.group, value.mode),
+        (
+            expected.block,
+            vec![expected.cnv_files as u64, expected.seq_files as u64],
+            expected.owner,
+            expected.group,
+            expected.mode
+        )
+    );
+    assert_eq!((value.uuid, value.read_only), (expected.uuid, expected.read_only));
+    assert_eq!(value.policy.code(), expected.policy as u64);
+    let held = expected.held.map(|held| {
+        let command = (held.command.operation as u64, held.command.address, held.command.length);
+        (held.kind as u64, held.number, command)
+    });
+    let outstanding = value.outstanding.map(|(file, command)| {
+        (file.kind.code(), file.number, (command.kind.code(), command.address, command.length))
+    });
+    assert_eq!(outstanding, held);
+}

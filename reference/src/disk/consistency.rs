@@ -1,0 +1,330 @@
+//! The consistency check: a run of calls, mishaps and completions on a truthful disk, compared with a fresh
+//! mount whenever nothing is outstanding.
+
+use std::collections::VecDeque;
+
+use super::model::{Choice, Disk, Mishap, Outcome};
+use crate::player::calls::{Call, Reply};
+use crate::player::mount::Input;
+use crate::player::play::mount_volume;
+use crate::player::superblock;
+use crate::player::types::{Access, Condition, FileKind, Held, Operation, Policy, Refusal, Row, Volume};
+use crate::player::zone::{self, Zone, HEADER, RECORD};
+
+/// A failed check shows so many entries of its run.
+const ENTRIES_SHOWN: usize = 40;
+/// The check allows for so many exceptions.
+pub const EXCEPTIONS: usize = 3;
+
+/// What a check has compared.
+#[derive(Clone, Copy, Debug, Default, PartialEq, Eq)]
+pub struct Compared {
+    /// States with nothing outstanding, each with a fresh mount.
+    pub states: u64,
+    pub rows: u64,
+    pub exceptions: [u64; EXCEPTIONS],
+}
+
+impl Compared {
+    pub fn add(&mut self, other: &Compared) {
+        self.states += other.states;
+        self.rows += other.rows;
+        for (sum, count) in self.exceptions.iter_mut().zip(other.exceptions) {
+            *sum += count;
+        }
+    }
+}
+
+/// What has happened to one file, as far as the check needs it.
+#[derive(Clone, Copy, Debug)]
+struct Story {
+    /// No mishap since the mount or the last completion on it other than a good read.
+    quiet: bool,
+    /// A command failed, other than a read that found everything as it was.
+    recovered: bool,
+    /// What a fresh mount would have given when the file was last quiet with a healthy zone.
+    last_size: u64,
+    read_only_at_mount: bool,
+}
+
+/// One entry of the list, kept to be shown when a check fails.
+#[derive(Clone, Copy, Debug)]
+pub enum Entry {
+    Call(Call, Result<Reply, Refusal>),
+    Mishap { zone: usize, mishap: Mishap, happened: bool },
+    Doing { held: Held, choice: Choice, outcome: Outcome },
+    IdleCompletion,
+}
+
+pub struct Run {
+    input: Input,
+    pub disk: Disk,
+    pub volume: Volume,
+    /// The file of each zone; zone 0 has none.
+    owner: Vec<Option<(FileKind, u32)>>,
+    cnv: Vec<Story>,
+    seq: Vec<Story>,
+    seq_zone: Vec<usize>,
+    /// How many entries there were, and the last of them.
+    entries: u64,
+    last_entries: VecDeque<Entry>,
+    pub compared: Compared,
+}
+
+impl Run {
+    /// Starts from a mount that must be answered 0, with the disk as its report says.
+    pub fn begin(input: &Input) -> Result<Run, String> {
+        let refused = |refusal: Refusal| format!("the first mount is refused with {}", refusal.number());
+        let volume = mount_volume(input).map_err(refused)?;
+        let zones = zone::decode_report(&input.report).map_err(refused)?;
+        let aggregate = superblock::decode(&input.super_block).map_err(refused)?.aggregate;
+        let owner = owners(&zones, aggregate);
+        let seq_zone: Vec<usize> = (1..zones.len()).filter(|&zone| !zones[zone].is_conventional()).collect();
+        let story = |zone: Option<&Zone>| Story {
+            quiet: true,
+            recovered: false,
+            last_size: zone.map_or(0, size_if_healthy),
+            read_only_at_mount: zone.is_some_and(|zone| zone.health() == Condition::ReadOnly),
+        };
+        let mut run = Run {
+            input: input.clone(),
+            cnv: vec![story(None); volume.mount.cnv_files],
+            seq: seq_zone.iter().map(|&zone| story(Some(&zones[zone]))).collect(),
+            disk: Disk::new(zones, volume.mount.block),
+            volume,
+            owner,
+            seq_zone,
+            entries: 0,
+            last_entries: VecDeque::new(),
+            compared: Compared::default(),
+        };
+        run.end_entry()?;
+        Ok(run)
+    }
+
+    pub fn call(&mut self, call: &Call) -> Result<(), String> {
+        let before = self.volume.clone();
+        let result = self.volume.call(call);
+        self.note(Entry::Call(*call, result));
+        if result.is_err() && self.volume != before {
+            return Err(self.complaint("a refused call moved something"));
+        }
+        self.check_frame(&before, call.kind, call.number)?;
+        self.end_entry()
+    }
+
+    pub fn mishap(&mut self, zone: usize, mishap: Mishap) -> Result<(), String> {
+        let happened = self.disk.suffer(zone, mishap);
+        if happened {
+            self.disturb(zone);
+        }
+        self.note(Entry::Mishap { zone, mishap, happened });
+        self.end_entry()
+    }
+
+    /// A completion while nothing is outstanding: refused, and nothing moves.
+    pub fn idle_completion(&mut self, failed: Option<&[u8]>) -> Result<(), String> {
+        let before = self.volume.clone();
+        let answer = match failed {
+            None => self.volume.succeed(),
+            Some(record) => self.volume.fail(record, true),
+        };
+        self.note(Entry::IdleCompletion);
+        if answer != Err(Refusal::NothingOutstanding) {
+            return Err(self.complaint(&format!("an idle completion is answered {answer:?}")));
+        }
+        if self.volume != before {
+            return Err(self.complaint("an idle completion moved something"));
+        }
+        self.end_entry()
+    }
+
+    /// The disk does the outstanding command and its completion is digested; `encode` makes the bytes of the
+    /// zone record. Nothing happens, and None is given, while nothing is outstanding.
+    pub fn doing(
+        &mut self,
+        choice: &Choice,
+        mut encode: impl FnMut(&Zone) -> [u8; RECORD],
+    ) -> Result<Option<Option<[u8; RECORD]>>, String> {
+        let Some(held) = self.volume.mount.held else { return Ok(None) };
+        let quiet = self.story(held.kind, held.number).quiet;
+        let outcome = self.disk.perform(&held.command, quiet, choice);
+        if outcome.mishap {
+            self.disturb(outcome.zone);
+        }
+        self.note(Entry::Doing { held, choice: *choice, outcome });
+        let record = outcome.failed.then(|| encode(&self.disk.zones[outcome.zone]));
+        let before = self.volume.clone();
+        let answer = match &record {
+            None => self.volume.succeed(),
+            Some(record) => self.volume.fail(record, true),
+        };
+        if let Err(refusal) = answer {
+            let number = refusal.number();
+            return Err(self.complaint(&format!("a truthful completion is answered {number}")));
+        }
+        self.check_frame(&before, held.kind, held.number)?;
+        self.note_completion(&held, &outcome);
+        self.end_entry()?;
+        Ok(Some(record))
+    }
+
+    fn note(&mut self, entry: Entry) {
+        self.entries += 1;
+        self.last_entries.push_back(entry);
+        if self.last_entries.len() > ENTRIES_SHOWN {
+            self.last_entries.pop_front();
+        }
+    }
+
+    /// The file of the outstanding command is quiet again, unless all that was seen is a good read.
+    fn note_completion(&mut self, held: &Held, outcome: &Outcome) {
+        let read = held.command.operation == Operation::Read;
+        let zone = self.disk.zones[outcome.zone];
+        let story = self.story(held.kind, held.number);
+        // Only sequential files are compared, so only their recoveries matter.
+        if outcome.failed && held.kind == FileKind::Sequential {
+            let as_before = zone.health() == Condition::Healthy && size_if_healthy(&zone) == story.last_size;
+            story.recovered |= !(read && as_before);
+        }
+        story.quiet |= outcome.failed || !read;
+    }
+
+    fn story(&mut self, kind: FileKind, number: u32) -> &mut Story {
+        match kind {
+            FileKind::Conventional => &mut self.cnv[number as usize],
+            FileKind::Sequential => &mut self.seq[number as usize],
+        }
+    }
+
+    fn disturb(&mut self, zone: usize) {
+        if let Some((kind, number)) = self.owner[zone] {
+            self.story(kind, number).quiet = false;
+        }
+    }
+
+    /// Only the row that is concerned may have changed, and beyond it only the held command and the mark.
+    fn check_frame(&self, before: &Volume, kind: FileKind, number: u32) -> Result<(), String> {
+        let mut expected = before.clone();
+        expected.mount.held = self.volume.mount.held;
+        expected.mount.read_only = self.volume.mount.read_only;
+        if let Some(row) = self.volume.rows(kind).get(number as usize) {
+            *expected.row_mut(kind, number) = *row;
+        }
+        if expected != self.volume {
+            return Err(self.complaint("something moved beside the row that was concerned"));
+        }
+        Ok(())
+    }
+
+    /// Between entries: last sizes are taken, and with nothing outstanding a fresh mount is compared.
+    fn end_entry(&mut self) -> Result<(), String> {
+        for (story, &zone) in self.seq.iter_mut().zip(&self.seq_zone) {
+            let zone = &self.disk.zones[zone];
+            if story.quiet && zone.health() == Condition::Healthy {
+                story.last_size = size_if_healthy(zone);
+            }
+        }
+        if self.volume.mount.held.is_some() {
+            return Ok(());
+        }
+        self.compared.states += 1;
+        let fresh_input = Input { report: self.report_now(), ..self.input.clone() };
+        let fresh = mount_volume(&fresh_input).map_err(|refusal| {
+            self.complaint(&format!("the fresh mount is refused with {}", refusal.number()))
+        })?;
+        for number in 0..self.seq.len() {
+            if self.seq[number].quiet {
+                self.compare_row(number, &fresh.seq[number])?;
+            }
+        }
+        Ok(())
+    }
+
+    /// The first report with each zone's pointer and condition as they are now.
+    fn report_now(&self) -> Vec<u8> {
+        let mut report = self.input.report.clone();
+        for (record, zone) in report[HEADER..].chunks_mut(RECORD).zip(&self.disk.zones) {
+            record[16..24].copy_from_slice(&zone.pointer.to_le_bytes());
+            record[25] = zone.condition;
+        }
+        report
+    }
+
+    fn compare_row(&mut self, number: usize, fresh: &Row) -> Result<(), String> {
+        let story = self.seq[number];
+        let health = self.disk.zones[self.seq_zone[number]].health();
+        let exception = exception(self.volume.mount.policy, &story, health);
+        // A recovered row has the zone's own condition, also where a fresh mount says offline.
+        let expected = match exception {
+            None => *fresh,
+            Some(1) => Row { size: 0, access: Access::None, condition: health, ..*fresh },
+            Some(_) => Row { size: story.last_size, access: Access::Read, condition: health, ..*fresh },
+        };
+        let row = self.volume.seq[number];
+        if row != expected {
+            let what = format!("seq/{number} is {row:?}, expected {expected:?}, fresh {fresh:?}, {story:?}");
+            return Err(self.complaint(&what));
+        }
+        self.compared.rows += 1;
+        if let Some(which) = exception {
+            self.compared.exceptions[which - 1] += 1;
+        }
+        Ok(())
+    }
+
+    /// Everything that is needed to see a failed check by hand.
+    fn complaint(&self, what: &str) -> String {
+        let zones = zone::decode_report(&self.input.report).unwrap_or_default();
+        let mut text = format!(
+            "consistency: {what}\n  policy {:?}, block {}",
+            self.volume.mount.policy, self.input.block
+        );
+        for (number, zone) in zones.iter().enumerate().take(16) {
+            text.push_str(&format!("\n  zone {number} at mount: {zone:?}"));
+        }
+        let skipped = self.entries - self.last_entries.len() as u64;
+        for (number, entry) in (skipped..).zip(&self.last_entries) {
+            text.push_str(&format!("\n  entry {number}: {entry:?}"));
+        }
+        text
+    }
+}
+
+/// Which exception a quiet sequential file falls under.
+fn exception(policy: Policy, story: &Story, health: Condition) -> Option<usize> {
+    match (policy, health) {
+        (Policy::ZoneOffline, _) => story.recovered.then_some(1),
+        (_, Condition::ReadOnly) => (!story.read_only_at_mount).then_some(2),
+        (Policy::ZoneReadOnly, Condition::Healthy) => story.recovered.then_some(3),
+        _ => None,
+    }
+}
+
+fn size_if_healthy(zone: &Zone) -> u64 {
+    if zone.health() == Condition::Healthy {
+        zone.written()
+    } else {
+        0
+    }
+}
+
+/// The file that each zone belongs to, by its own walk over the zones.
+fn owners(zones: &[Zone], aggregate: bool) -> Vec<Option<(FileKind, u32)>> {
+    let (mut cnv, mut seq) = (0, 0);
+    let mut owners = vec![None];
+    for number in 1..zones.len() {
+        let owner = if !zones[number].is_conventional() {
+            seq += 1;
+            (FileKind::Sequential, seq - 1)
+        } else {
+            let continues = aggregate && number > 1 && zones[number - 1].is_conventional();
+            if !continues {
+                cnv += 1;
+            }
+            (FileKind::Conventional, cnv - 1)
+        };
+        owners.push(Some(owner));
+    }
+    owners
+}

@@ -1,0 +1,153 @@
+//! The model disk: what commands do to zones, and what may go wrong with them.
+
+use std::ops::RangeInclusive;
+
+use crate::player::types::{Command, Condition, Operation, SECTOR};
+use crate::player::zone::{Zone, EMPTY, FULL, IMPLICIT_OPEN, OFFLINE, READ_ONLY};
+
+#[derive(Clone, Copy, Debug, PartialEq, Eq)]
+pub enum Mishap {
+    /// The pointer of a healthy sequential zone falls back by so many blocks, at most to the start.
+    Fall {
+        blocks: u64,
+    },
+    BecomesReadOnly,
+    BecomesOffline,
+}
+
+/// What the disk chooses when it does a command. The last two matter only if the command fails.
+#[derive(Clone, Copy, Debug, PartialEq, Eq)]
+pub struct Choice {
+    pub fail: bool,
+    pub landed_blocks: u64,
+    pub mishap: Option<Mishap>,
+}
+
+#[derive(Clone, Copy, Debug, PartialEq, Eq)]
+pub struct Outcome {
+    /// The zone at the command's address.
+    pub zone: usize,
+    pub failed: bool,
+    /// Whether a mishap befell that zone while the command failed.
+    pub mishap: bool,
+}
+
+#[derive(Clone, Debug)]
+pub struct Disk {
+    pub zones: Vec<Zone>,
+    /// Sectors in a block.
+    step: u64,
+}
+
+impl Disk {
+    pub fn new(zones: Vec<Zone>, block: u64) -> Disk {
+        Disk { zones, step: block / SECTOR }
+    }
+
+    /// Whether anything happened: a fall of no block and a condition that isn't worse are no mishaps.
+    pub fn suffer(&mut self, zone: usize, mishap: Mishap) -> bool {
+        let step = self.step;
+        let zone = &mut self.zones[zone];
+        let health = zone.health();
+        match mishap {
+            Mishap::Fall { blocks } => {
+                if zone.is_conventional() || health != Condition::Healthy {
+                    return false;
+                }
+                let fallen = blocks.min((zone.pointer - zone.start) / step);
+                move_pointer(zone, zone.pointer - fallen * step);
+                fallen > 0
+            }
+            Mishap::BecomesReadOnly if health == Condition::Healthy => {
+                zone.condition = READ_ONLY;
+                true
+            }
+            Mishap::BecomesOffline if health != Condition::Offline => {
+                zone.condition = OFFLINE;
+                true
+            }
+            Mishap::BecomesReadOnly | Mishap::BecomesOffline => false,
+        }
+    }
+
+    /// Does a command. `quiet` is the file's, for a flush.
+    pub fn perform(&mut self, command: &Command, quiet: bool, choice: &Choice) -> Outcome {
+        let zone = self.zone_at(command.address);
+        if !choice.fail && !self.must_fail(command, quiet) {
+            self.carry_out(zone, command);
+            return Outcome { zone, failed: false, mishap: false };
+        }
+        if command.operation == Operation::Write && self.takes_write(zone, command.address) {
+            let landed = choice.landed_blocks.min(command.length / SECTOR / self.step);
+            self.advance(zone, landed * self.step);
+        }
+        let mishap = choice.mishap.is_some_and(|mishap| self.suffer(zone, mishap));
+        Outcome { zone, failed: true, mishap }
+    }
+
+    /// The zone that a byte address lies in.
+    pub fn zone_at(&self, address: u64) -> usize {
+        self.zones.partition_point(|zone| zone.start <= address / SECTOR) - 1
+    }
+
+    /// All zones that a command reaches: more than one only in a conventional run.
+    fn touched(&self, command: &Command) -> RangeInclusive<usize> {
+        let last = command.address + command.length.saturating_sub(1);
+        self.zone_at(command.address)..=self.zone_at(last)
+    }
+
+    fn must_fail(&self, command: &Command, quiet: bool) -> bool {
+        let mut touched = self.touched(command);
+        match command.operation {
+            Operation::Read => touched.any(|zone| self.zones[zone].health() == Condition::Offline),
+            Operation::Write => {
+                touched.any(|zone| self.zones[zone].health() != Condition::Healthy)
+                    || !self.takes_write(self.zone_at(command.address), command.address)
+            }
+            Operation::Reset | Operation::Finish => {
+                touched.any(|zone| self.zones[zone].health() != Condition::Healthy)
+            }
+            Operation::Flush => !quiet,
+        }
+    }
+
+    /// A healthy sequential zone takes a write at its pointer only, a conventional one anywhere.
+    fn takes_write(&self, zone: usize, address: u64) -> bool {
+        let zone = &self.zones[zone];
+        zone.health() == Condition::Healthy && (zone.is_conventional() || zone.pointer * SECTOR == address)
+    }
+
+    fn carry_out(&mut self, zone: usize, command: &Command) {
+        match command.operation {
+            Operation::Read | Operation::Flush => {}
+            Operation::Write => self.advance(zone, command.length / SECTOR),
+            Operation::Reset => {
+                let zone = &mut self.zones[zone];
+                move_pointer(zone, zone.start);
+            }
+            Operation::Finish => {
+                let zone = &mut self.zones[zone];
+                move_pointer(zone, zone.start + zone.capacity);
+            }
+        }
+    }
+
+    fn advance(&mut self, zone: usize, sectors: u64) {
+        let zone = &mut self.zones[zone];
+        if !zone.is_conventional() {
+            move_pointer(zone, zone.pointer + sectors);
+        }
+    }
+}
+
+/// A healthy sequential zone's condition follows its pointer.
+fn move_pointer(zone: &mut Zone, pointer: u64) {
+    zone.pointer = pointer;
+    zone.condition = if pointer == zone.start {
+        EMPTY
+    } else if pointer == zone.start + zone.capacity {
+        FULL
+    } else {
+        IMPLICIT_OPEN
+    };
+}

@@ -1,0 +1,140 @@
+//! Calls with arguments that matter: at the size, at the capacity, off the block, past every limit.
+
+use super::random::Random;
+use crate::player::tape::{CallRecord, Verb};
+use crate::player::types::{Access, Condition, FileKind, Row, Volume};
+
+const VERBS: [Verb; 4] = [Verb::Read, Verb::Write, Verb::Truncate, Verb::Flush];
+
+/// A call on nothing in particular.
+pub fn any_call(random: &mut Random) -> CallRecord {
+    let (offset, length) = (random.below(1 << 20), random.below(1 << 20));
+    CallRecord { verb: random.pick(&VERBS), kind: random.below(2) as u8, number: 0, offset, length }
+}
+
+/// A call on one of the volume's files, mostly; the file `busy` of each kind and its next two get most calls.
+pub fn call(random: &mut Random, volume: &Volume, busy: u64) -> CallRecord {
+    let (kind, number, row) = lively_file(random, volume, busy);
+    // A read-only mount refuses all but reads before it looks at them.
+    let weights = if volume.mount.read_only { [76, 10, 7, 7] } else { [24, 42, 20, 14] };
+    let verb = VERBS[random.weighted(&weights)];
+    let block = volume.mount.block;
+    let (offset, length) = match verb {
+        Verb::Read => read_arguments(random, &row, block),
+        Verb::Write => write_arguments(random, &row, block, kind == 1),
+        Verb::Truncate => (random.word(), truncate_size(random, &row, block)),
+        Verb::Flush => (random.word(), random.word()),
+    };
+    CallRecord { verb, kind, number, offset, length }
+}
+
+/// Looks a few times for a file that can be used at all; calls on the others are answered 4 and nothing else.
+fn lively_file(random: &mut Random, volume: &Volume, busy: u64) -> (u8, u32, Row) {
+    let mut chosen = file(random, volume, busy);
+    for _ in 0..3 {
+        let access = row_of(volume, chosen).map_or(Access::Write, |row| row.access);
+        let wanted = if random.percent(70) { Access::Write } else { Access::Read };
+        if access >= wanted || random.percent(10) {
+            break;
+        }
+        chosen = file(random, volume, busy);
+    }
+    let row = row_of(volume, chosen).unwrap_or(NO_FILE);
+    (chosen.0, chosen.1, row)
+}
+
+/// Stands in for the row of a file that isn't there.
+const NO_FILE: Row =
+    Row { start: 8, capacity: 1 << 20, size: 0, condition: Condition::Healthy, access: Access::Write };
+
+fn row_of(volume: &Volume, (kind, number): (u8, u32)) -> Option<Row> {
+    let kind = if kind == 0 { FileKind::Conventional } else { FileKind::Sequential };
+    let row = *volume.rows(kind).get(number as usize)?;
+    (row.capacity != 0).then_some(row)
+}
+
+/// Kind byte and number. Few files get most of the calls, so that much happens to each of them.
+fn file(random: &mut Random, volume: &Volume, busy: u64) -> (u8, u32) {
+    if random.percent(2) {
+        return (random.pick(&[2, 3, 128, 255]), random.below(3) as u32);
+    }
+    let counts = [volume.mount.cnv_files as u64, volume.mount.seq_files as u64];
+    let preferred = usize::from(random.percent(75));
+    // A kind without files still gets a call now and then.
+    let kind = if counts[preferred] == 0 && random.percent(97) { 1 - preferred } else { preferred };
+    let count = counts[kind];
+    let number = match random.weighted(&[70, 24, 3, 3]) {
+        0 => (busy + random.below(count.min(3))) % count.max(1),
+        1 => random.below(count),
+        2 => count + random.below(2),
+        _ => random.pick(&[1021, 1022, 1023, 65_536, u64::from(u32::MAX)]),
+    };
+    (kind as u8, number as u32)
+}
+
+fn read_arguments(random: &mut Random, row: &Row, block: u64) -> (u64, u64) {
+    let offset = match random.weighted(&[30, 30, 10, 10, 8, 6, 6]) {
+        0 => 0,
+        1 => random.below(row.size + 1),
+        2 => row.size,
+        3 => row.size.saturating_sub(block),
+        4 => random.below(row.capacity),
+        5 => row.capacity,
+        _ => odd_offset(random, row, block),
+    };
+    (offset, length(random, row, block, offset))
+}
+
+fn write_arguments(random: &mut Random, row: &Row, block: u64, sequential: bool) -> (u64, u64) {
+    let at_size = if sequential { 80 } else { 0 };
+    let offset = if random.percent(at_size) {
+        row.size
+    } else {
+        match random.weighted(&[40, 20, 20, 20]) {
+            0 => random.below(row.capacity),
+            1 => row.size.wrapping_sub(block),
+            2 => random.pick(&[0, row.capacity - block, row.capacity, row.size + block]),
+            _ => odd_offset(random, row, block),
+        }
+    };
+    (offset, length(random, row, block, offset))
+}
+
+fn odd_offset(random: &mut Random, row: &Row, block: u64) -> u64 {
+    match random.below(5) {
+        0 => row.size + 1,
+        1 => row.size + 512,
+        2 => row.capacity + 1,
+        3 => row.capacity + block,
+        _ => random.extreme(),
+    }
+}
+
+/// Mostly whole blocks that fit; sometimes just too long, or such that the sum wraps.
+fn length(random: &mut Random, row: &Row, block: u64, offset: u64) -> u64 {
+    let room = row.capacity.saturating_sub(offset);
+    match random.weighted(&[36, 20, 12, 6, 8, 7, 6, 5]) {
+        0 => random.between(1, 4) * block,
+        1 => random.between(1, (room / block).max(1)) * block,
+        2 => room,
+        3 => 0,
+        4 => room + random.pick(&[1, block, 512]),
+        5 => random.pick(&[1, block - 1, block + 1, 512, 10_000]),
+        6 => random.below(room),
+        _ => match random.below(3) {
+            0 => offset.wrapping_neg(),
+            1 => offset.wrapping_neg().wrapping_add(row.capacity),
+            _ => random.extreme(),
+        },
+    }
+}
+
+fn truncate_size(random: &mut Random, row: &Row, block: u64) -> u64 {
+    match random.weighted(&[40, 30, 12, 12, 6]) {
+        0 => 0,
+        1 => row.capacity,
+        2 => row.size,
+        3 => random.pick(&[1, block, row.capacity - block, row.capacity + 1, row.capacity - 1]),
+        _ => random.extreme(),
+    }
+}

@@ -1,0 +1,66 @@
+//! One long run against the model disk that stays lively to its end.
+
+use super::random::Random;
+use super::records::head;
+use super::runs::{doing, step, Course};
+use super::shape::{self, Shape};
+use crate::disk::consistency::Run;
+use crate::player::mount::Input;
+use crate::player::options;
+use crate::player::types::Condition;
+
+/// The only policy that leaves the mount and its healthy files writable after a failure.
+const OPTIONS: &[u8] = b"errors=repair";
+/// The most bytes that can be added to the options.
+pub const MAX_PAD: u64 = (options::MAX_LENGTH - OPTIONS.len()) as u64;
+/// So many calls go mostly to the same few files, with the same chances of failures and mishaps.
+const CHAPTER: u64 = 400;
+/// Of each kind there are at least so many files, as some of them are lost on the way.
+const FEWEST_FILES: usize = 8;
+
+/// A tape with a good mount and exactly so many calls. `pad` commas at the end of the options, which mean
+/// nothing, shift every record after the mount. Err if the consistency check fails.
+pub fn long(seed: u64, calls: u64, pad: u64) -> Result<Vec<u8>, String> {
+    // An index that no other tape of the seed has.
+    let mut random = Random::new(seed, u64::MAX);
+    let (input, mut run) = begin(&mut random)?;
+    let mut tape = head(&padded(input, pad));
+    let healthy_at_mount = healthy_zones(&run);
+    let mut made = 0;
+    for chapter in 0..calls.div_ceil(CHAPTER) {
+        let mut course = Course { busy: chapter * 3, ..Course::any(&mut random) };
+        let end = calls.min((chapter + 1) * CHAPTER);
+        while made < end {
+            // Nothing ever betters a zone, so half of them are kept, and the others are lost evenly over the run.
+            let lost = healthy_at_mount - healthy_zones(&run);
+            course.worsening = lost * 2 * calls < healthy_at_mount * made;
+            made += u64::from(step(&mut random, &mut run, &course, &mut tape)?);
+        }
+    }
+    let course = Course::any(&mut random);
+    doing(&mut random, &mut run, &course, &mut tape)?;
+    Ok(tape)
+}
+
+/// A good mount with enough files of both kinds.
+fn begin(random: &mut Random) -> Result<(Input, Run), String> {
+    loop {
+        let shape = shape::with_zones(random, |random| random.between(60, 100));
+        let input = shape::input(random, &Shape { options: OPTIONS.to_vec(), ..shape });
+        let run = Run::begin(&input)?;
+        let mount = &run.volume.mount;
+        if mount.cnv_files.min(mount.seq_files) >= FEWEST_FILES {
+            return Ok((input, run));
+        }
+    }
+}
+
+fn padded(input: Input, pad: u64) -> Input {
+    let mut options = input.options;
+    options.resize(options.len() + pad as usize, b',');
+    Input { options, ..input }
+}
+
+fn healthy_zones(run: &Run) -> u64 {
+    run.disk.zones.iter().filter(|zone| zone.health() == Condition::Healthy).count() as u64
+}

@@ -1,0 +1,35 @@
+//! Seeded tapes. Each is one of four sorts: a run against the model disk, a run with any completions, a
+//! refused mount, a broken tape.
+
+mod broken;
+mod calls;
+mod failures;
+mod long;
+pub mod random;
+pub mod records;
+mod refused;
+mod runs;
+mod shape;
+
+pub use long::{long, MAX_PAD};
+
+use crate::disk::consistency::Compared;
+use random::Random;
+
+pub struct Generated {
+    pub bytes: Vec<u8>,
+    /// What the consistency check saw on the way; Err if it failed.
+    pub check: Result<Compared, String>,
+}
+
+/// The tape with this index of this seed, whatever else is generated.
+pub fn generate(seed: u64, index: u64) -> Generated {
+    let mut random = Random::new(seed, index);
+    let unchecked = |bytes| Generated { bytes, check: Ok(Compared::default()) };
+    match random.weighted(&[42, 18, 28, 12]) {
+        0 => runs::truthful(&mut random),
+        1 => unchecked(runs::wild(&mut random)),
+        2 => unchecked(refused::tape(&mut random)),
+        _ => unchecked(broken::tape(&mut random)),
+    }
+}

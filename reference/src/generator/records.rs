@@ -1,0 +1,34 @@
+//! Writing the records of a tape.
+
+use crate::player::mount::Input;
+use crate::player::tape::Record;
+
+/// Appends a record, mark first.
+pub fn encode(record: &Record, tape: &mut Vec<u8>) {
+    let mut put = |mark: &str, parts: &[&[u8]]| {
+        tape.extend_from_slice(mark.as_bytes());
+        parts.iter().for_each(|part| tape.extend_from_slice(part));
+    };
+    match record {
+        Record::Block(block) => put("BK", &[&block.to_le_bytes()]),
+        Record::SuperBlock(bytes) => put("SB", &[bytes]),
+        Record::Report(bytes) => put("ZR", &[bytes]),
+        Record::Options(text) => put("MO", &[&[text.len() as u8], text]),
+        Record::Call(call) => {
+            let (number, offset) = (call.number.to_le_bytes(), call.offset.to_le_bytes());
+            put(call.verb.mark(), &[&[call.kind], &number, &offset, &call.length.to_le_bytes()]);
+        }
+        Record::Good => put("OK", &[]),
+        Record::Failed(bytes) => put("NO", &[bytes]),
+    }
+}
+
+/// The four records that a tape begins with.
+pub fn head(input: &Input) -> Vec<u8> {
+    let mut tape = Vec::new();
+    encode(&Record::Block(input.block), &mut tape);
+    encode(&Record::SuperBlock(&input.super_block), &mut tape);
+    encode(&Record::Report(&input.report), &mut tape);
+    encode(&Record::Options(&input.options), &mut tape);
+    tape
+}

@@ -1,0 +1,195 @@
+//! Finding and showing files, and deciding reads, writes, truncations and flushes.
+
+use super::types::{
+    sum_within, Access, Command, Condition, FileKind, Held, Mount, Operation, Refusal, Row, Volume,
+    DISK_LIMIT, MAX_FILES, SECTOR,
+};
+
+#[derive(Clone, Copy, Debug, PartialEq, Eq)]
+pub enum Request {
+    Read { offset: u64, length: u64 },
+    Write { offset: u64, length: u64 },
+    Truncate { size: u64 },
+    Flush,
+}
+
+#[derive(Clone, Copy, Debug, PartialEq, Eq)]
+pub struct Call {
+    pub kind: FileKind,
+    pub number: u32,
+    pub request: Request,
+}
+
+/// Answered at once with a count, or a command issued to the disk.
+#[derive(Clone, Copy, Debug, PartialEq, Eq)]
+pub enum Reply {
+    Done(u64),
+    Issued(Command),
+}
+
+impl Volume {
+    /// Decides a call and holds the command it issues, if any. A refusal changes nothing.
+    pub fn call(&mut self, call: &Call) -> Result<Reply, Refusal> {
+        let row = self.checked_row(call.kind, call.number)?;
+        if self.mount.held.is_some() {
+            return Err(Refusal::Outstanding);
+        }
+        let reply = decide(&self.mount, call.kind, &row, &call.request)?;
+        if let Reply::Issued(command) = reply {
+            self.mount.held = Some(Held { kind: call.kind, number: call.number, command });
+        }
+        Ok(reply)
+    }
+
+    /// The file of a name such as `seq/12`.
+    pub fn find(&self, name: &[u8]) -> Result<(FileKind, u32), Refusal> {
+        self.check_counts()?;
+        let (kind, number) = parse_name(name).ok_or(Refusal::NoSuchFile)?;
+        self.checked_row(kind, number)?;
+        Ok((kind, number))
+    }
+
+    /// A file's row and the mode that it shows.
+    pub fn show(&self, kind: FileKind, number: u32) -> Result<(Row, u32), Refusal> {
+        let row = self.checked_row(kind, number)?;
+        let mode = match row.access {
+            Access::None => 0,
+            Access::Write if !self.mount.read_only => self.mount.mode,
+            _ => self.mount.mode & !0o222,
+        };
+        Ok((row, mode))
+    }
+
+    /// The checks that all calls share, before the one on the outstanding command.
+    pub fn checked_row(&self, kind: FileKind, number: u32) -> Result<Row, Refusal> {
+        self.check_counts()?;
+        let number = number as usize;
+        if number >= self.files(kind) {
+            return Err(Refusal::NoSuchFile);
+        }
+        let row = self.rows(kind)[number];
+        if !is_possible(&row, kind, self.mount.block) {
+            return Err(Refusal::Impossible);
+        }
+        Ok(row)
+    }
+
+    fn check_counts(&self) -> Result<(), Refusal> {
+        let fits = |files: usize, rows: usize| files <= rows && files <= MAX_FILES;
+        let block_known = self.mount.block == 512 || self.mount.block == 4096;
+        let counts_fit =
+            fits(self.mount.cnv_files, self.cnv.len()) && fits(self.mount.seq_files, self.seq.len());
+        if block_known && counts_fit {
+            Ok(())
+        } else {
+            Err(Refusal::Impossible)
+        }
+    }
+}
+
+fn parse_name(name: &[u8]) -> Option<(FileKind, u32)> {
+    let (kind, digits) = if let Some(digits) = name.strip_prefix(b"cnv/") {
+        (FileKind::Conventional, digits)
+    } else {
+        (FileKind::Sequential, name.strip_prefix(b"seq/")?)
+    };
+    let leading_zero = digits.len() > 1 && digits[0] == b'0';
+    if leading_zero || !digits.iter().all(u8::is_ascii_digit) {
+        return None;
+    }
+    // Fails for no digits and for a number that is too large for any file.
+    let number = std::str::from_utf8(digits).ok()?.parse().ok()?;
+    Some((kind, number))
+}
+
+/// What number 10 asks of a row.
+fn is_possible(row: &Row, kind: FileKind, block: u64) -> bool {
+    let whole = |value: u64, unit: u64| value != 0 && value.is_multiple_of(unit);
+    let placed = whole(row.start, block / SECTOR)
+        && whole(row.capacity, block)
+        && sum_within(row.start, row.capacity / SECTOR, DISK_LIMIT);
+    let sized = row.size.is_multiple_of(block)
+        && match (row.access, kind) {
+            (Access::None, _) => row.size == 0,
+            (_, FileKind::Conventional) => row.size == row.capacity,
+            (_, FileKind::Sequential) => row.size <= row.capacity,
+        };
+    let accessible = match row.condition {
+        Condition::Healthy => true,
+        Condition::ReadOnly => row.access != Access::Write,
+        Condition::Offline => row.access == Access::None,
+    };
+    placed && sized && accessible
+}
+
+/// What a call on a possible row is answered while nothing is outstanding. It doesn't look at the held command.
+pub fn decide(mount: &Mount, kind: FileKind, row: &Row, request: &Request) -> Result<Reply, Refusal> {
+    match *request {
+        Request::Read { offset, length } => read(row, offset, length),
+        Request::Write { offset, length } => {
+            check_writable(mount, row)?;
+            write(mount, kind, row, offset, length)
+        }
+        Request::Truncate { size } => {
+            check_writable(mount, row)?;
+            truncate(kind, row, size)
+        }
+        Request::Flush => {
+            check_writable(mount, row)?;
+            Ok(issue(row, Operation::Flush, 0, 0))
+        }
+    }
+}
+
+fn check_writable(mount: &Mount, row: &Row) -> Result<(), Refusal> {
+    if mount.read_only {
+        return Err(Refusal::ReadOnlyMount);
+    }
+    if row.access != Access::Write {
+        return Err(Refusal::Access);
+    }
+    Ok(())
+}
+
+fn read(row: &Row, offset: u64, length: u64) -> Result<Reply, Refusal> {
+    if row.access == Access::None {
+        return Err(Refusal::Access);
+    }
+    if !sum_within(offset, length, row.capacity) {
+        return Err(Refusal::BeyondCapacity);
+    }
+    let count = length.min(row.size.saturating_sub(offset));
+    if count == 0 {
+        return Ok(Reply::Done(0));
+    }
+    Ok(issue(row, Operation::Read, offset, count))
+}
+
+fn write(mount: &Mount, kind: FileKind, row: &Row, offset: u64, length: u64) -> Result<Reply, Refusal> {
+    if !sum_within(offset, length, row.capacity) {
+        return Err(Refusal::BeyondCapacity);
+    }
+    let aligned = offset.is_multiple_of(mount.block) && length.is_multiple_of(mount.block);
+    if kind == FileKind::Sequential && !(aligned && offset == row.size) {
+        return Err(Refusal::NotAppending);
+    }
+    if length == 0 {
+        return Ok(Reply::Done(0));
+    }
+    Ok(issue(row, Operation::Write, offset, length))
+}
+
+fn truncate(kind: FileKind, row: &Row, size: u64) -> Result<Reply, Refusal> {
+    if kind == FileKind::Conventional || (size != 0 && size != row.capacity) {
+        return Err(Refusal::Access);
+    }
+    if size == row.size {
+        return Ok(Reply::Done(0));
+    }
+    let operation = if size == 0 { Operation::Reset } else { Operation::Finish };
+    Ok(issue(row, operation, 0, 0))
+}
+
+fn issue(row: &Row, operation: Operation, offset: u64, length: u64) -> Reply {
+    Reply::Issued(Command { operation, address: row.start * SECTOR + offset, length })
+}

@@ -1,0 +1,122 @@
+//! Digesting a completion: success, or failure with the zone's record.
+
+use super::calls::{decide, Reply, Request};
+use super::types::{
+    sum_within, Access, Command, Condition, FileKind, Held, Mount, Operation, Policy, Refusal, Row, Volume,
+    SECTOR,
+};
+use super::zone::{Zone, RECORD};
+
+impl Volume {
+    /// The command was done: gives the count of a read or write, else 0.
+    pub fn succeed(&mut self) -> Result<u64, Refusal> {
+        let (held, _) = self.checked_held()?;
+        let Held { kind, number, command } = held;
+        let row = self.row_mut(kind, number);
+        match command.operation {
+            Operation::Write if kind == FileKind::Sequential => row.size += command.length,
+            Operation::Reset => row.size = 0,
+            Operation::Finish => row.size = row.capacity,
+            Operation::Read | Operation::Write | Operation::Flush => {}
+        }
+        self.mount.held = None;
+        Ok(command.length)
+    }
+
+    /// The disk failed the command and reports a zone. `Ok` is answer 7, with the file's new size.
+    pub fn fail(&mut self, record: &[u8], capacity_given: bool) -> Result<u64, Refusal> {
+        let (held, row) = self.checked_held()?;
+        if record.len() != RECORD {
+            return Err(Refusal::RecordMismatch);
+        }
+        let zone = Zone::decode(record, capacity_given);
+        if !zone.is_good(self.mount.block) || !matches_file(&zone, held.kind, &row) {
+            return Err(Refusal::RecordMismatch);
+        }
+        self.mount.held = None;
+        if needs_recovery(&held, &row, &zone) {
+            let policy = self.mount.policy;
+            *self.row_mut(held.kind, held.number) = recover(policy, held.kind, &row, &zone);
+            self.mount.read_only |= policy == Policy::RemountReadOnly;
+        }
+        Ok(self.rows(held.kind)[held.number as usize].size)
+    }
+
+    /// Checks 8 and 10. A held command on a file that isn't there is impossible (10), not unknown (1).
+    fn checked_held(&self) -> Result<(Held, Row), Refusal> {
+        let held = self.mount.held.ok_or(Refusal::NothingOutstanding)?;
+        let row = self.checked_row(held.kind, held.number).map_err(|_| Refusal::Impossible)?;
+        if !is_issuable(&self.mount, held.kind, &row, &held.command) {
+            return Err(Refusal::Impossible);
+        }
+        Ok((held, row))
+    }
+}
+
+/// Whether some call on the file would issue this command. Its own address and length name the only
+/// candidate: a read that is cut at the size commands the same as the shorter read.
+fn is_issuable(mount: &Mount, kind: FileKind, row: &Row, command: &Command) -> bool {
+    let Some(offset) = command.address.checked_sub(row.start * SECTOR) else {
+        return false;
+    };
+    let request = match command.operation {
+        Operation::Read => Request::Read { offset, length: command.length },
+        Operation::Write => Request::Write { offset, length: command.length },
+        Operation::Reset => Request::Truncate { size: 0 },
+        Operation::Finish => Request::Truncate { size: row.capacity },
+        Operation::Flush => Request::Flush,
+    };
+    decide(mount, kind, row, &request) == Ok(Reply::Issued(*command))
+}
+
+/// A sequential file is one zone, which can't have got better; a conventional one may be several zones.
+fn matches_file(zone: &Zone, kind: FileKind, row: &Row) -> bool {
+    match kind {
+        FileKind::Sequential => {
+            !zone.is_conventional()
+                && zone.start == row.start
+                && zone.capacity == row.capacity / SECTOR
+                && zone.health() >= row.condition
+        }
+        FileKind::Conventional => {
+            let end = row.start + row.capacity / SECTOR;
+            zone.is_conventional() && zone.start >= row.start && sum_within(zone.start, zone.length, end)
+        }
+    }
+}
+
+/// A read that failed in a healthy zone whose size is as it should be recovers nothing.
+fn needs_recovery(held: &Held, row: &Row, zone: &Zone) -> bool {
+    let size_agrees = held.kind == FileKind::Conventional
+        || (zone.health() == Condition::Healthy && row.size == zone.written());
+    let harmless =
+        held.command.operation == Operation::Read && zone.health() == Condition::Healthy && size_agrees;
+    !harmless
+}
+
+#[derive(Clone, Copy)]
+enum NewSize {
+    Fixed,
+    AsIs,
+    Zero,
+}
+
+/// The recovery table: the size's rule, and the most access that is left.
+fn table_entry(policy: Policy, condition: Condition) -> (NewSize, Access) {
+    match (policy, condition) {
+        (_, Condition::Offline) | (Policy::ZoneOffline, _) => (NewSize::Zero, Access::None),
+        (_, Condition::ReadOnly) => (NewSize::AsIs, Access::Read),
+        (Policy::ZoneReadOnly, Condition::Healthy) => (NewSize::Fixed, Access::Read),
+        (Policy::RemountReadOnly | Policy::Repair, Condition::Healthy) => (NewSize::Fixed, Access::Write),
+    }
+}
+
+fn recover(policy: Policy, kind: FileKind, row: &Row, zone: &Zone) -> Row {
+    let (rule, most) = table_entry(policy, zone.health());
+    let size = match rule {
+        NewSize::Fixed if kind == FileKind::Sequential => zone.written(),
+        NewSize::Fixed | NewSize::AsIs => row.size,
+        NewSize::Zero => 0,
+    };
+    Row { size, condition: zone.health(), access: row.access.min(most), ..*row }
+}

@@ -1,0 +1,80 @@
+//! Mounting: checks 20 to 30, and the rows that the zones give.
+
+use super::types::{Access, Condition, Mount, Refusal, Row, SECTOR};
+use super::zone::Zone;
+use super::{options, superblock, zone};
+
+/// The four inputs of a mount, as a tape carries them.
+#[derive(Clone, Debug, PartialEq, Eq)]
+pub struct Input {
+    pub block: u16,
+    pub super_block: Vec<u8>,
+    pub report: Vec<u8>,
+    pub options: Vec<u8>,
+}
+
+/// Fills the front of both tables. A refusal leaves them as they were, as it does the rows past the files.
+pub fn mount(input: &Input, cnv: &mut [Row], seq: &mut [Row]) -> Result<Mount, Refusal> {
+    let block = u64::from(input.block);
+    if block != 512 && block != 4096 {
+        return Err(Refusal::Block);
+    }
+    let super_block = superblock::decode(&input.super_block)?;
+    let policy = options::parse(&input.options)?;
+    let zones = zone::decode_report(&input.report)?;
+    zone::check_zones(&zones, block)?;
+    let cnv_rows = conventional_rows(&zones, super_block.aggregate);
+    let seq_rows = sequential_rows(&zones);
+    if cnv_rows.len() > cnv.len() || seq_rows.len() > seq.len() {
+        return Err(Refusal::TooFewRows);
+    }
+    cnv[..cnv_rows.len()].copy_from_slice(&cnv_rows);
+    seq[..seq_rows.len()].copy_from_slice(&seq_rows);
+    Ok(Mount {
+        block,
+        cnv_files: cnv_rows.len(),
+        seq_files: seq_rows.len(),
+        owner: super_block.owner,
+        group: super_block.group,
+        mode: super_block.mode,
+        policy,
+        read_only: false,
+        held: None,
+        uuid: super_block.uuid,
+    })
+}
+
+fn sequential_rows(zones: &[Zone]) -> Vec<Row> {
+    zones.iter().skip(1).filter(|zone| !zone.is_conventional()).map(sequential_row).collect()
+}
+
+fn sequential_row(zone: &Zone) -> Row {
+    let healthy = zone.health() == Condition::Healthy;
+    let size = if healthy { zone.written() } else { 0 };
+    row_at_mount(zone.start, zone.capacity * SECTOR, size, healthy)
+}
+
+/// Zone 0 holds the super block and belongs to no file, so it begins no run either.
+fn conventional_rows(zones: &[Zone], aggregate: bool) -> Vec<Row> {
+    let files = &zones[1..];
+    let runs: Vec<&[Zone]> = if aggregate {
+        files.chunk_by(|a, b| a.is_conventional() == b.is_conventional()).collect()
+    } else {
+        files.chunks(1).collect()
+    };
+    runs.into_iter().filter(|run| run[0].is_conventional()).map(conventional_row).collect()
+}
+
+fn conventional_row(run: &[Zone]) -> Row {
+    let sectors: u64 = run.iter().map(|zone| zone.capacity).sum();
+    let healthy = run.iter().all(|zone| zone.health() == Condition::Healthy);
+    let size = if healthy { sectors * SECTOR } else { 0 };
+    row_at_mount(run[0].start, sectors * SECTOR, size, healthy)
+}
+
+/// A zone that is read-only at mount has no known size, so it is kept as an offline one.
+fn row_at_mount(start: u64, capacity: u64, size: u64, healthy: bool) -> Row {
+    let (condition, access) =
+        if healthy { (Condition::Healthy, Access::Write) } else { (Condition::Offline, Access::None) };
+    Row { start, capacity, size, condition, access }
+}

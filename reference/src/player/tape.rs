@@ -1,0 +1,145 @@
+//! The records of a tape, and how they are read.
+
+use super::calls::{Call, Request};
+use super::types::{u32_at, u64_at, FileKind, MAX_ZONES};
+use super::{superblock, zone};
+
+#[derive(Clone, Copy, Debug, PartialEq, Eq)]
+pub enum Verb {
+    Read,
+    Write,
+    Truncate,
+    Flush,
+}
+
+impl Verb {
+    pub fn mark(self) -> &'static str {
+        match self {
+            Verb::Read => "RD",
+            Verb::Write => "WR",
+            Verb::Truncate => "TR",
+            Verb::Flush => "FL",
+        }
+    }
+}
+
+/// A call as the tape has it: any kind byte, and fields that its verb may not use.
+#[derive(Clone, Copy, Debug, PartialEq, Eq)]
+pub struct CallRecord {
+    pub verb: Verb,
+    pub kind: u8,
+    pub number: u32,
+    pub offset: u64,
+    pub length: u64,
+}
+
+impl CallRecord {
+    /// None for a kind byte that no file has.
+    pub fn call(&self) -> Option<Call> {
+        let kind = match self.kind {
+            0 => FileKind::Conventional,
+            1 => FileKind::Sequential,
+            _ => return None,
+        };
+        Some(Call { kind, number: self.number, request: self.request() })
+    }
+
+    pub fn request(&self) -> Request {
+        let (offset, length) = (self.offset, self.length);
+        match self.verb {
+            Verb::Read => Request::Read { offset, length },
+            Verb::Write => Request::Write { offset, length },
+            Verb::Truncate => Request::Truncate { size: length },
+            Verb::Flush => Request::Flush,
+        }
+    }
+}
+
+#[derive(Clone, Copy, Debug, PartialEq, Eq)]
+pub enum Record<'a> {
+    Block(u16),
+    SuperBlock(&'a [u8]),
+    Report(&'a [u8]),
+    Options(&'a [u8]),
+    Call(CallRecord),
+    Good,
+    Failed(&'a [u8]),
+}
+
+#[derive(Clone, Copy, Debug, PartialEq, Eq)]
+pub enum Next<'a> {
+    Record(Record<'a>),
+    End,
+    /// An unknown mark, or a record that the tape ends in.
+    Broken,
+}
+
+/// Reads records one after the other; `at` is where the next one begins.
+pub struct Reader<'a> {
+    tape: &'a [u8],
+    pub at: usize,
+}
+
+impl<'a> Reader<'a> {
+    pub fn new(tape: &'a [u8]) -> Reader<'a> {
+        Reader { tape, at: 0 }
+    }
+
+    /// A broken record isn't passed over: `at` stays on it.
+    pub fn read(&mut self) -> Next<'a> {
+        let rest = &self.tape[self.at..];
+        if rest.is_empty() {
+            return Next::End;
+        }
+        match decode(rest) {
+            Some((record, length)) => {
+                self.at += length;
+                Next::Record(record)
+            }
+            None => Next::Broken,
+        }
+    }
+}
+
+/// The record at the front and its length with the mark; None if it is unknown or cut.
+fn decode(rest: &[u8]) -> Option<(Record<'_>, usize)> {
+    let mark = rest.get(..2)?;
+    let body = &rest[2..];
+    let (record, length) = match mark {
+        b"BK" => (Record::Block(u16::from_le_bytes([*body.first()?, *body.get(1)?])), 2),
+        b"SB" => (Record::SuperBlock(body.get(..superblock::LENGTH)?), superblock::LENGTH),
+        b"ZR" => {
+            let length = report_length(body.get(..zone::HEADER)?);
+            (Record::Report(body.get(..length)?), length)
+        }
+        b"MO" => {
+            let length = usize::from(*body.first()?);
+            (Record::Options(body.get(1..1 + length)?), 1 + length)
+        }
+        b"RD" => (decode_call(Verb::Read, body)?, CALL_LENGTH),
+        b"WR" => (decode_call(Verb::Write, body)?, CALL_LENGTH),
+        b"TR" => (decode_call(Verb::Truncate, body)?, CALL_LENGTH),
+        b"FL" => (decode_call(Verb::Flush, body)?, CALL_LENGTH),
+        b"OK" => (Record::Good, 0),
+        b"NO" => (Record::Failed(body.get(..zone::RECORD)?), zone::RECORD),
+        _ => return None,
+    };
+    Some((record, 2 + length))
+}
+
+/// Nothing follows a header whose count no report can have.
+fn report_length(header: &[u8]) -> usize {
+    match u32_at(header, 8) {
+        count @ 1..=MAX_ZONES => zone::HEADER + zone::RECORD * count as usize,
+        _ => zone::HEADER,
+    }
+}
+
+const CALL_LENGTH: usize = 21;
+
+fn decode_call(verb: Verb, body: &[u8]) -> Option<Record<'static>> {
+    let body = body.get(..CALL_LENGTH)?;
+    let (kind, number) = (body[0], u32_at(body, 1));
+    let (offset, length) = (u64_at(body, 5), u64_at(body, 13));
+    Some(Record::Call(CallRecord { verb, kind, number, offset, length }))
+}

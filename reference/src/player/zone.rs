@@ -1,0 +1,116 @@
+//! Zone records and the zone report.
+
+use super::types::{sum_within, u32_at, u64_at, Condition, Refusal, DISK_LIMIT, MAX_ZONES, SECTOR};
+
+pub const HEADER: usize = 16;
+pub const RECORD: usize = 64;
+
+pub const CONVENTIONAL: u8 = 1;
+pub const SEQUENTIAL_REQUIRED: u8 = 2;
+pub const SEQUENTIAL_PREFERRED: u8 = 3;
+
+pub const NOT_WRITE_POINTER: u8 = 0;
+pub const EMPTY: u8 = 1;
+pub const IMPLICIT_OPEN: u8 = 2;
+pub const CLOSED: u8 = 4;
+pub const READ_ONLY: u8 = 13;
+pub const FULL: u8 = 14;
+pub const OFFLINE: u8 = 15;
+
+/// A zone as a record gives it, in sectors; nothing is checked yet.
+#[derive(Clone, Copy, Debug, PartialEq, Eq)]
+pub struct Zone {
+    pub start: u64,
+    pub length: u64,
+    pub pointer: u64,
+    pub kind: u8,
+    pub condition: u8,
+    pub capacity: u64,
+}
+
+impl Zone {
+    /// `record` has 64 bytes. Without the header's flag the capacity field is not looked at.
+    pub fn decode(record: &[u8], capacity_given: bool) -> Zone {
+        let length = u64_at(record, 8);
+        Zone {
+            start: u64_at(record, 0),
+            length,
+            pointer: u64_at(record, 16),
+            kind: record[24],
+            condition: record[25],
+            capacity: if capacity_given { u64_at(record, 32) } else { length },
+        }
+    }
+
+    pub fn is_conventional(&self) -> bool {
+        self.kind == CONVENTIONAL
+    }
+
+    pub fn health(&self) -> Condition {
+        match self.condition {
+            READ_ONLY => Condition::ReadOnly,
+            OFFLINE => Condition::Offline,
+            _ => Condition::Healthy,
+        }
+    }
+
+    /// Bytes before the write pointer; only for a good, healthy, sequential zone.
+    pub fn written(&self) -> u64 {
+        (self.pointer - self.start) * SECTOR
+    }
+
+    /// Every check of a zone but the one on where it starts.
+    pub fn is_good(&self, block: u64) -> bool {
+        let step = block / SECTOR;
+        let whole = |sectors: u64| sectors != 0 && sectors.is_multiple_of(step);
+        whole(self.length)
+            && whole(self.capacity)
+            && self.capacity <= self.length
+            && sum_within(self.start, self.length, DISK_LIMIT)
+            && self.fits_its_kind(step)
+    }
+
+    fn fits_its_kind(&self, step: u64) -> bool {
+        match (self.kind, self.condition) {
+            (CONVENTIONAL, NOT_WRITE_POINTER | READ_ONLY | OFFLINE) => self.capacity == self.length,
+            (SEQUENTIAL_REQUIRED | SEQUENTIAL_PREFERRED, condition) => match condition {
+                // The pointer of such a zone means nothing.
+                READ_ONLY | OFFLINE => true,
+                EMPTY..=CLOSED => self.pointer_is_good(step),
+                FULL => self.pointer_is_good(step) && self.pointer == self.start + self.capacity,
+                _ => false,
+            },
+            _ => false,
+        }
+    }
+
+    fn pointer_is_good(&self, step: u64) -> bool {
+        let end = self.start + self.capacity;
+        self.start <= self.pointer && self.pointer <= end && self.pointer.is_multiple_of(step)
+    }
+}
+
+/// The zones of a report with a good header, unchecked. Anything wrong with header or length is 28.
+pub fn decode_report(report: &[u8]) -> Result<Vec<Zone>, Refusal> {
+    if report.len() < HEADER {
+        return Err(Refusal::ReportHeader);
+    }
+    let (sector, count, flags) = (u64_at(report, 0), u32_at(report, 8), u32_at(report, 12));
+    let length = HEADER as u64 + RECORD as u64 * u64::from(count);
+    if sector != 0 || count == 0 || count > MAX_ZONES || flags > 1 || report.len() as u64 != length {
+        return Err(Refusal::ReportHeader);
+    }
+    Ok(report[HEADER..].chunks(RECORD).map(|record| Zone::decode(record, flags == 1)).collect())
+}
+
+/// 29 with the first zone that isn't good or doesn't start where the one before ended.
+pub fn check_zones(zones: &[Zone], block: u64) -> Result<(), Refusal> {
+    let mut expected = 0;
+    for (number, zone) in zones.iter().enumerate() {
+        if zone.start != expected || !zone.is_good(block) {
+            return Err(Refusal::BadZone(number));
+        }
+        expected = zone.start + zone.length;
+    }
+    Ok(())
+}

@@ -1,0 +1,6 @@
+//! What the command line offers beside playing and making tapes: comparing another player, showing a tape, checksums.
+
+pub mod compare;
+pub mod describe;
+pub mod sums;
+pub mod tally;

@@ -1,0 +1,107 @@
+//! What a comparison has reached: answers by mark, and the consistency check's own numbers.
+
+use std::collections::BTreeMap;
+
+use crate::disk::consistency::Compared;
+
+/// Every answer that a tape can show. It can't show 10 and 30 (its tables and mount are always possible
+/// and long enough), nor 21 (its super block always has its length).
+const EXPECTED: [(&str, &[&str]); 8] = [
+    ("MO", &["0", "20", "22", "23", "24", "25", "26", "27", "28", "29"]),
+    ("RD", &["R", "D", "1", "2", "4", "5"]),
+    ("WR", &["W", "D", "1", "2", "3", "4", "5", "6"]),
+    ("TR", &["Z", "F", "D", "1", "2", "3", "4"]),
+    ("FL", &["S", "1", "2", "3", "4"]),
+    ("OK", &["0", "8"]),
+    ("NO", &["7", "8", "9"]),
+    ("??", &["40"]),
+];
+
+#[derive(Clone, Debug, Default, PartialEq, Eq)]
+pub struct Tally {
+    pub tapes: u64,
+    pub lines: u64,
+    /// Tapes on which the player ended with another exit status than 0; the papers ask nothing of it.
+    pub exits: u64,
+    answers: BTreeMap<(String, String), u64>,
+    /// What the consistency check saw while the tapes were made.
+    pub compared: Compared,
+}
+
+impl Tally {
+    /// Counts a line under its mark and its answer; 0 with a letter counts under the letter.
+    pub fn count_line(&mut self, line: &str) {
+        let mut words = line.split(' ');
+        let mark = words.next().unwrap_or("").to_string();
+        let answer = words.next().unwrap_or("");
+        let letter = words.next().filter(|word| word.chars().all(|c| c.is_ascii_uppercase()));
+        let answer = if answer == "0" { letter.unwrap_or("0") } else { answer };
+        *self.answers.entry((mark, answer.to_string())).or_default() += 1;
+        self.lines += 1;
+    }
+
+    pub fn add(&mut self, other: &Tally) {
+        self.tapes += other.tapes;
+        self.lines += other.lines;
+        self.exits += other.exits;
+        self.compared.add(&other.compared);
+        for (key, count) in &other.answers {
+            *self.answers.entry(key.clone()).or_default() += count;
+        }
+    }
+
+    /// Everything that should have been reached and wasn't.
+    pub fn missing(&self) -> Vec<String> {
+        let reached =
+            |mark: &str, answer: &str| self.answers.contains_key(&(mark.to_string(), answer.to_string()));
+        let mut missing = Vec::new();
+        for (mark, answers) in EXPECTED {
+            for answer in answers.iter().filter(|answer| !reached(mark, answer)) {
+                missing.push(format!("{mark} {answer}"));
+            }
+        }
+        for (index, _) in self.compared.exceptions.iter().enumerate().filter(|(_, &count)| count == 0) {
+            missing.push(format!("exception {} of the consistency check", index + 1));
+        }
+        missing
+    }
+
+    /// How often an answer came; all answers of a mark for None.
+    pub fn count(&self, mark: &str, answer: Option<&str>) -> u64 {
+        let wanted = |key: &(String, String)| key.0 == mark && answer.is_none_or(|answer| answer == key.1);
+        self.answers.iter().filter(|(key, _)| wanted(key)).map(|(_, count)| count).sum()
+    }
+
+    /// `MO 0=12 20=3; RD R=5 ..`.
+    fn answers_text(&self) -> String {
+        let mut answers = String::new();
+        let mut last = "";
+        for ((mark, answer), count) in &self.answers {
+            if mark != last {
+                let gap = if answers.is_empty() { "" } else { "; " };
+                answers.push_str(&format!("{gap}{mark}"));
+                last = mark;
+            }
+            answers.push_str(&format!(" {answer}={count}"));
+        }
+        answers
+    }
+
+    /// One line on a single tape.
+    pub fn tape_summary(&self, bytes: usize) -> String {
+        let calls: u64 = ["RD", "WR", "TR", "FL"].iter().map(|mark| self.count(mark, None)).sum();
+        let (good, failed) = (self.count("OK", None), self.count("NO", None));
+        let answers = self.answers_text();
+        format!("{calls} calls, {good} completions good and {failed} failed, {bytes} bytes ({answers})")
+    }
+
+    /// One line on a comparison.
+    pub fn summary(&self) -> String {
+        let answers = self.answers_text();
+        let Compared { states, rows, exceptions: [first, second, third] } = self.compared;
+        format!(
+            "{} tapes, {} lines alike ({answers}), nonzero exits {}; fresh mounts {states}, rows {rows}, exceptions {first}/{second}/{third}",
+            self.tapes, self.lines, self.exits
+        )
+    }
+}
