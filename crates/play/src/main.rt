@@ -1,16 +1,16 @@
 // Plays a tape, from the file that its argument names or from standard input, and writes the lines that it prints.
-// What is read is played by `tape`, whose functions say exactly what they do; here is only what reads and writes.
+// What is read is played by `tape_pieces`, whose functions say exactly what they do; here is only what reads and writes.
 ghost use mathlib.Core.Path.{_≡_};
 ghost use mathlib.Core.Bool.{true, false};
 ghost use Prim.Native.Nat.{_≤_, _<_};
 ghost use lib.ListN.{length, take};
 ghost use Rattle.tape_lines.specs.Facts.{lineRoom};
-ghost use Rattle.tape.specs.Pieces.{longestOpening};
+ghost use Rattle.tape_pieces.specs.Pieces.{longestOpening};
 use libc::STDERR_FILENO;
 use libc::STDIN_FILENO;
 use libc::STDOUT_FILENO;
-use tape::Kept;
 use tape::TABLE_WORDS;
+use tape_pieces::Kept;
 
 // The bytes of a tape that are read at once, with room for its first four records whole; and those of the lines that are written at once.
 const READ_BYTES: usize = 131072;
@@ -107,7 +107,7 @@ fn read_on(
         };
     }
     let turned = kept.turned;
-    let next = tape::next_part(b, input.have, input.ended, turned, cnv, seq, out);
+    let next = tape_pieces::next_part(b, input.have, input.ended, turned, cnv, seq, out);
     Playing {
         kept: next,
         ended: input.ended,
@@ -134,7 +134,7 @@ fn play_on(
         let kept = p.kept;
         let turned = kept.turned;
         let is_written = write_lines(&out[..], turned.to);
-        if !is_written | tape::is_over(turned.more, p.ended, kept.left) {
+        if !is_written | tape_pieces::is_over(turned.more, p.ended, kept.left) {
             return;
         }
         p = read_on(fd, name, kept, p.ended, b, cnv, seq, out);
@@ -150,7 +150,7 @@ fn play_tape(fd: i32, name: &[u8], b: &mut [u8], cnv: &mut [u64], seq: &mut [u64
     if input.failed {
         return;
     }
-    let kept = tape::first_part(b, input.have, input.ended, cnv, seq, out);
+    let kept = tape_pieces::first_part(b, input.have, input.ended, cnv, seq, out);
     let p = Playing {
         kept,
         ended: input.ended,

@@ -1,8 +1,5 @@
 pub mod Blocks
 pub mod Loop
-pub mod Openings
-pub mod Parts
-pub mod Pieces
 pub mod Playing
 pub mod Stores
 pub mod Texts

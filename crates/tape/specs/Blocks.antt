@@ -1,8 +1,8 @@
--- A block of records: those that can be played of the bytes that are there, and what is kept of these for the next.
+-- A block of records: those that can be played of the bytes that are there.
 use Prim.Native.Nat.{ℕ, zero, suc, _+_}
 use mathlib.Core.List.{List, [], _++_}
 use mathlib.Core.Bool.{Bool, cond, _&&_, _||_}
-use lib.ListN.{length, drop}
+use lib.ListN.{length}
 use lib.Dec.{leb, ltb}
 use Rattle.tape_records.specs.Records.{failedBytes}
 use Rattle.tape_lines.specs.Facts.{lineRoom}
@@ -44,31 +44,3 @@ blockFrom (suc n) ended b to room r =
 -- all of them: no record is empty
 abbrev pub blockOf : Bool → List ℕ → ℕ → ℕ → Rest → Turn
 blockOf ended b to room r = blockFrom (length b) ended b to room r
-
--- ---- what is kept
-
--- what the player holds between two reads: the bytes that aren't played yet, whether they are the last, and what the last record left
-pub record Holding : Type 0 where
-  pub bytes : List ℕ
-  pub ended : Bool
-  pub rest : Rest
-
--- the lines that a part of a tape prints, and what is held after it
-pub record Part : Type 0 where
-  pub text : List ℕ
-  pub held : Holding
-
--- of the bytes that are there, those from the next record on
-abbrev pub partBy : Bool → List ℕ → Turn → Part
-partBy ended b t = record {
-  text = t .line;
-  held = record {
-    bytes = drop (t .rest .next) b;
-    ended = ended;
-    rest = record { more = t .rest .more; next = 0; state = t .rest .state };
-  };
-}
-
--- the records that are ready are played, and what is left of the bytes is kept
-unfoldable pub partOf : Bool → List ℕ → ℕ → ℕ → Rest → Part
-partOf ended b to room r = partBy ended b (blockOf ended b to room r)

@@ -1,15 +1,12 @@
 -- What functions tell those that call them. No outcome is defined here.
-use Prim.Native.Nat.{ℕ, _≤_}
+use Prim.Native.Nat.{ℕ}
 use mathlib.Core.List.{List}
 use mathlib.Core.Path.{_≡_}
-use lib.ListN.{length, take}
-use lib.Seq.{sets}
+use lib.ListN.{take}
 use Rattle.text.specs.Facts.{Put}
 use Rattle.tape_turns.specs.declared.Turned.{Turned}
 use Rattle.tape_turns.specs.Turns.{Turn}
 use Rattle.tape_turns.specs.Facts.{restOf}
-use Rattle.tape.specs.declared.Kept.{Kept}
-use Rattle.tape.specs.Blocks.{Part}
 
 -- a function played records: it put their lines at a place, and handed back the rest
 pub record Plays (t : Turn) (before after : List ℕ) (to : ℕ) (r : Turned) (cnv seq : List ℕ) : Type 0 where
@@ -22,12 +19,3 @@ pub record Copies (t : Turned) (lines before after : List ℕ) (to : ℕ) (r : T
   pub more : r .more ≡ t .more
   pub next : r .next ≡ t .next
   pub mount : r .mount ≡ t .mount
-
--- a function played a part of a tape: it put its lines at a place, moved what is held to the front of the buffer, and handed back the rest
-pub record Keeps (p : Part) (buffer left before after : List ℕ) (to : ℕ) (r : Kept) (cnv seq : List ℕ) : Type 0 where
-  pub lines : Put before after to (r .turned .to) (p .text)
-  pub front : left ≡ sets buffer 0 (p .held .bytes)
-  pub held : r .left ≡ length (p .held .bytes)
-  pub rest : restOf (r .turned) cnv seq ≡ p .held .rest
-  pub short : r .left ≤ length buffer
-  pub inside : to ≤ length before → r .turned .to ≤ length before

@@ -1,4 +1,3 @@
 pub mod Blocks
 pub mod Facts
-pub mod Pieces
 pub mod Tape

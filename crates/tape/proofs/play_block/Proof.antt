@@ -31,13 +31,14 @@ take-turn-requires : tie.Need-take-turn-requires Inv-loop μ-loop
 take-turn-requires c κs =
     let a = c .before .before .before .before .before .before .before .before .before .before .args in
     let l = c .before .before .before .before .before .loop in
-    ready-room (restOf (l .t) (l .cnv) (l .seq)) (a .ended) (a .b .now) (l .t .to) (length (l .out)) (sym (c .before .before .before .before .is-ready .ensures) ∙ c .before .before .before .if1 .taken)
+    let e : isReady (l .t .more) (l .t .next) (a .ended) (length (a .b .now)) (l .t .to) (length (l .out)) ≡ true = sym (c .before .before .before .before .is-ready .ensures) ∙ c .before .before .before .if1 .taken in
+    ready-room (restOf (l .t) (l .cnv) (l .seq)) (a .ended) (a .b .now) (l .t .to) (length (l .out)) e
 
 loop-less : tie.Need-loop-less Inv-loop μ-loop
 loop-less c =
     let a = c .before .before .before .before .before .before .before .before .before .before .before .before .before .before .before .before .before .args in
     let l = c .before .before .before .before .before .before .before .before .before .before .before .before .loop in
-    let e = sym (c .before .before .before .before .before .before .before .before .before .before .before .is-ready .ensures) ∙ c .before .before .before .before .before .before .before .before .before .before .if1 .taken in
+    let e : isReady (l .t .more) (l .t .next) (a .ended) (length (a .b .now)) (l .t .to) (length (l .out)) ≡ true = sym (c .before .before .before .before .before .before .before .before .before .before .before .is-ready .ensures) ∙ c .before .before .before .before .before .before .before .before .before .before .if1 .taken in
     less (a .ended) (a .b .now) (length (l .out)) (restOf (l .t) (l .cnv) (l .seq)) (c .before .before .before .before .before .before .take-turn .result) e (c .before .before .before .before .before .before .take-turn .ensures)
 
 loop-again : tie.Need-loop-again Inv-loop μ-loop
@@ -45,7 +46,7 @@ loop-again c =
     let a = c .before .before .before .before .before .before .before .before .before .before .before .before .before .before .before .before .before .args in
     let l = c .before .before .before .before .before .before .before .before .before .before .before .before .loop in
     let i = l .inv in
-    let e = sym (c .before .before .before .before .before .before .before .before .before .before .before .is-ready .ensures) ∙ c .before .before .before .before .before .before .before .before .before .before .if1 .taken in
+    let e : isReady (l .t .more) (l .t .next) (a .ended) (length (a .b .now)) (l .t .to) (length (l .out)) ≡ true = sym (c .before .before .before .before .before .before .before .before .before .before .before .is-ready .ensures) ∙ c .before .before .before .before .before .before .before .before .before .before .if1 .taken in
     let w = subst (λ (n : ℕ). isReady (l .t .more) (l .t .next) (a .ended) (length (a .b .now)) (l .t .to) n ≡ true) (i .2) e in
     let turn = c .before .before .before .before .before .before .take-turn in
     let k = turn .kept .1 .1 .1 in (
@@ -69,7 +70,7 @@ returns : tie.Need-returns Inv-loop μ-loop
 returns c =
     let a = c .before .before .before .before .before .before .before .args in
     let l = c .before .before .loop in
-    let e = sym (c .before .is-ready .ensures) ∙ c .if1 .left in
+    let e : isReady (l .t .more) (l .t .next) (a .ended) (length (a .b .now)) (l .t .to) (length (l .out)) ≡ false = sym (c .before .is-ready .ensures) ∙ c .if1 .left in
     let w = subst (λ (n : ℕ). isReady (l .t .more) (l .t .next) (a .ended) (length (a .b .now)) (l .t .to) n ≡ false) (l .inv .2) e in
     (over (l .t) (l .inv .4) w, l .inv .3)
 

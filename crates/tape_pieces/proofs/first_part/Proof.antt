@@ -1,10 +1,10 @@
 use mathlib.Core.Path.{sym}
 use lib.ListN.{take}
 use lib.Seq.{length-take-le}
-use Rattle.tape.proofs.Parts.{first-keeps}
+use Rattle.tape_pieces.proofs.Parts.{first-keeps}
 use borrow.Author.Needs.{needs}
-use Rattle.tape.proofs.first_part.Statement.{statement}
-use Rattle.tape.proofs.first_part.Tie as tie
+use Rattle.tape_pieces.proofs.first_part.Statement.{statement}
+use Rattle.tape_pieces.proofs.first_part.Tie as tie
 
 slice-reshare-prefix-open-tape : tie.Need-slice-reshare-prefix-open-tape
 slice-reshare-prefix-open-tape c = search needs

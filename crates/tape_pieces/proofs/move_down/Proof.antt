@@ -4,9 +4,9 @@ use mathlib.Core.Path.{_≡_, refl, ap, subst, sym, _∙_}
 use mathlib.Core.List.{List}
 use lib.ListN.{length, take, drop, set, getD}
 use lib.Seq.{sets, length-sets}
-use Rattle.tape.proofs.Stores.{moved}
-use Rattle.tape.proofs.move_down.Statement.{statement}
-use Rattle.tape.proofs.move_down.Tie as tie
+use Rattle.tape_pieces.proofs.Stores.{moved}
+use Rattle.tape_pieces.proofs.move_down.Statement.{statement}
+use Rattle.tape_pieces.proofs.move_down.Tie as tie
 
 abbrev Inv-loop : tie.InvT-loop
 Inv-loop b₀ from n i₀ b i = (i ≤ n) × (length b ≡ length b₀) × (b ≡ sets b₀ 0 (take i (drop from b₀)))

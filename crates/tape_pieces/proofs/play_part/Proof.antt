@@ -3,10 +3,10 @@ use native.Mathlib.Omega.{arith}
 use lib.ListN.{length, take}
 use lib.Seq.{length-take-le}
 use Rattle.tape_turns.specs.Facts.{restOf}
-use Rattle.tape.proofs.Parts.{keeps}
+use Rattle.tape_pieces.proofs.Parts.{keeps}
 use borrow.Author.Needs.{needs}
-use Rattle.tape.proofs.play_part.Statement.{statement}
-use Rattle.tape.proofs.play_part.Tie as tie
+use Rattle.tape_pieces.proofs.play_part.Statement.{statement}
+use Rattle.tape_pieces.proofs.play_part.Tie as tie
 
 slice-reshare-prefix-play-block : tie.Need-slice-reshare-prefix-play-block
 slice-reshare-prefix-play-block c = search needs

@@ -11,12 +11,12 @@ use borrow.Author.Tests.{eqb-true, le-ltb, lt-ltb, le-leb}
 use Rattle.types.proofs.Tests.{both, and-left, and-right, cases}
 use Rattle.tape_lines.specs.Facts.{lineRoom}
 use Rattle.tape_turns.specs.Turns.{Rest, Turn, openTurn}
 use Rattle.tape.specs.Tape.{textWith, noRows, tapeText}
-use Rattle.tape.specs.Blocks.{longestRecord, isTold, isReady, Holding, Part, blockOf, partBy, partOf}
-use Rattle.tape.specs.Pieces.{Piece, firstPart, nextPart, linesFrom, heldAfter, joined, InOrder, longestOpening, Handed, isOver, isThrough, WritesTape, GetsOn}
+use Rattle.tape.specs.Blocks.{longestRecord, isTold, isReady, blockOf}
+use Rattle.tape_pieces.specs.Pieces.{Holding, Part, partBy, partOf, Piece, firstPart, nextPart, linesFrom, heldAfter, joined, InOrder, longestOpening, Handed, isOver, isThrough, WritesTape, GetsOn}
 use Rattle.tape.proofs.Texts.{textOf, no-text, text-kept}
 use Rattle.tape.proofs.Blocks.{Follows, Inside, block-text, block-inside, block-onward}
-use Rattle.tape.proofs.Openings.{opening-follows, opening-inside}
+use Rattle.tape_pieces.proofs.Openings.{opening-follows, opening-inside}
 
 -- ---- a part
 

@@ -4,10 +4,10 @@ use mathlib.Core.Path.{_≡_, refl, sym, ap, _∙_}
 use mathlib.Core.List.{[]}
 use lib.ListN.{length, take, drop, length-drop, drop-of-length-le}
 use lib.Seq.{sets, length-take-le}
-use Rattle.tape.proofs.Stores.{between}
+use Rattle.tape_pieces.proofs.Stores.{between}
 use borrow.Author.Needs.{needs}
-use Rattle.tape.proofs.keep_rest.Statement.{statement}
-use Rattle.tape.proofs.keep_rest.Tie as tie
+use Rattle.tape_pieces.proofs.keep_rest.Statement.{statement}
+use Rattle.tape_pieces.proofs.keep_rest.Tie as tie
 
 returns : tie.Need-returns
 returns c =

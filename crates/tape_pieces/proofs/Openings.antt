@@ -21,9 +21,9 @@ use Rattle.tape_records.specs.Facts.{longestReport}
 use Rattle.superblock.specs.SuperBlock.{superLength}
 use Rattle.report.specs.Report.{headerBytes}
 use Rattle.tape_turns.specs.Turns.{mounting, mountTurn, brokenTurn, openTurn}
-use Rattle.tape.specs.Pieces.{longestOpening}
+use Rattle.tape_pieces.specs.Pieces.{longestOpening}
 use Rattle.tape.proofs.Windows.{number-alike}
 use Rattle.tape.proofs.Blocks.{Inside}
 
 abbrev blockLetters : Letters
 blockLetters = pair (code "B") (code "K")

@@ -14,11 +14,12 @@ use Rattle.tape_lines.specs.Facts.{lineRoom}
 use Rattle.tape_turns.specs.declared.Turned.{Turned}
 use Rattle.tape_turns.specs.Turns.{Rest, openTurn}
 use Rattle.tape_turns.specs.Facts.{restOf, Takes}
-use Rattle.tape.specs.declared.Kept.{Kept}
-use Rattle.tape.specs.Blocks.{blockOf, partOf}
-use Rattle.tape.specs.Pieces.{pieceOf, firstPart}
-use Rattle.tape.specs.Facts.{Plays, Keeps}
+use Rattle.tape_pieces.specs.declared.Kept.{Kept}
+use Rattle.tape.specs.Blocks.{blockOf}
+use Rattle.tape.specs.Facts.{Plays}
+use Rattle.tape_pieces.specs.Pieces.{partOf, pieceOf, firstPart}
+use Rattle.tape_pieces.specs.Facts.{Keeps}
 use Rattle.tape.proofs.Texts.{atFront}
 
 -- the next record of a rest comes at the front
 abbrev pub frontTurned : Turned → Turned

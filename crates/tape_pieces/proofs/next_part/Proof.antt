@@ -1,6 +1,6 @@
 use borrow.Author.Needs.{needs}
-use Rattle.tape.proofs.next_part.Statement.{statement}
-use Rattle.tape.proofs.next_part.Tie as tie
+use Rattle.tape_pieces.proofs.next_part.Statement.{statement}
+use Rattle.tape_pieces.proofs.next_part.Tie as tie
 
 from-start-requires : tie.Need-from-start-requires
 from-start-requires c κs = search needs

@@ -1,16 +1,47 @@
--- A tape that is handed over in pieces, as reads do it: what the player writes, and the claim that this is the tape's text.
+-- A tape that is handed over in pieces, as reads do it: what is kept between two of them, what the player writes, and the claim that this is
+-- the tape's text.
 use Prim.Native.Nat.{ℕ, _+_, _≤_, _<_}
 use mathlib.Core.Path.{_≡_}
 use mathlib.Core.List.{List, [], _∷_, _++_}
 use mathlib.Core.Bool.{Bool, true, false, not, _&&_, _||_}
-use lib.ListN.{length, getD}
+use lib.ListN.{length, getD, drop}
 use lib.Dec.{eqb}
 use Rattle.tape_lines.specs.Facts.{lineRoom}
 use Rattle.tape_records.specs.Records.{mountBytes, reportStart}
 use Rattle.tape_records.specs.Facts.{longestReport}
-use Rattle.tape_turns.specs.Turns.{openTurn}
+use Rattle.tape_turns.specs.Turns.{Rest, Turn, openTurn}
 use Rattle.tape.specs.Tape.{noRows, tapeText}
-use Rattle.tape.specs.Blocks.{longestRecord, Holding, Part, lineThen, blockOf, partBy, partOf}
+use Rattle.tape.specs.Blocks.{longestRecord, lineThen, blockOf}
+
+-- ---- what is kept
+
+-- what the player holds between two reads: the bytes that aren't played yet, whether they are the last, and what the last record left
+pub record Holding : Type 0 where
+  pub bytes : List ℕ
+  pub ended : Bool
+  pub rest : Rest
+
+-- the lines that a part of a tape prints, and what is held after it
+pub record Part : Type 0 where
+  pub text : List ℕ
+  pub held : Holding
+
+-- of the bytes that are there, those from the next record on
+abbrev pub partBy : Bool → List ℕ → Turn → Part
+partBy ended b t = record {
+  text = t .line;
+  held = record {
+    bytes = drop (t .rest .next) b;
+    ended = ended;
+    rest = record { more = t .rest .more; next = 0; state = t .rest .state };
+  };
+}
+
+-- the records that are ready are played, and what is left of the bytes is kept
+unfoldable pub partOf : Bool → List ℕ → ℕ → ℕ → Rest → Part
+partOf ended b to room r = partBy ended b (blockOf ended b to room r)
+
+-- ---- the pieces
 
 -- what a read hands over: bytes, and whether it says that the input has ended
 pub record Piece : Type 0 where

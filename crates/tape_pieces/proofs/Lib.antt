@@ -1,0 +1,4 @@
+pub mod Openings
+pub mod Parts
+pub mod Pieces
+pub mod Stores
