@@ -1,14 +1,17 @@
-// The bytes that a vector lends: a super block, and from byte 4,096 on a report.
+// The bytes that vectors lend: an image of a super block and, behind it, of a report.
 ghost use Prim.Native.Nat.{_<_};
 use crate::lines::PLACES;
+use crate::printing;
+use report::HEADER_BYTES;
+use superblock::SUPER_BYTES;
+use zones::ZONE_BYTES;
 
-pub const SUPER_BYTES: usize = 4096;
+// The longest report that vectors lend has five zones.
+pub const REPORT_BYTES: usize = HEADER_BYTES + 5 * ZONE_BYTES;
 
-pub const REPORT_BYTES: usize = 336;
+pub const IMAGE_BYTES: usize = SUPER_BYTES + REPORT_BYTES;
 
-pub const IMAGE_BYTES: usize = 4432;
-
-// Stores a word at a place, the lowest byte first. One that doesn't fit is left out.
+// Stores a word, the lowest byte first.
 fn put(image: &mut [u8; IMAGE_BYTES], at: u64, word: u64) {
     if at <= (IMAGE_BYTES - 8) as u64 {
         let start = at as usize;
@@ -17,10 +20,12 @@ fn put(image: &mut [u8; IMAGE_BYTES], at: u64, word: u64) {
             image[start + i] = (rest % 256) as u8;
             rest /= 256;
         }
+    } else {
+        printing::bad_line();
     }
 }
 
-// Stores words, each given by its place and itself, from number `from` on up to number `last`.
+// Stores words. Number `from` is the place of the first of them, the next number is the word, and so on up to number `last`.
 pub fn put_words(image: &mut [u8; IMAGE_BYTES], numbers: &[u64; PLACES], from: usize, last: usize)
     requires { ⌜ last < 32 ⌝ }
 {
@@ -31,13 +36,13 @@ pub fn put_words(image: &mut [u8; IMAGE_BYTES], numbers: &[u64; PLACES], from: u
     }
 }
 
-// `count` bytes from `from` on; none where there are not so many.
+// `count` bytes from `from` on.
 pub fn part(image: &[u8], from: usize, count: usize) -> &[u8] {
-    if image.len() < from {
-        return &image[..0];
+    if from <= image.len() {
+        if count <= image.len() - from {
+            return &image[from..from + count];
+        }
     }
-    if image.len() - from < count {
-        return &image[..0];
-    }
-    &image[from..from + count]
+    printing::bad_line();
+    &image[..0]
 }

@@ -1,11 +1,12 @@
 // Lines of text: where a byte stands, and the numbers of a line.
 ghost use Prim.Native.Nat.{_≤_, _<_};
 ghost use lib.ListN.{length};
+use crate::printing;
 
-// The numbers that a line may have, with one place more: they stand from place 1 on.
+// The numbers of a line stand from place 1 on. There are at most 31.
 pub const PLACES: usize = 32;
 
-// What is left of a number where one more digit is to fit behind it.
+// A number below this has room for one more digit.
 const ROOM: u64 = 0x1000_0000_0000_0000;
 
 // The next place of a byte from `from` on, or the end.
@@ -31,25 +32,29 @@ fn past(at: usize, end: usize) -> usize
     if at < end { at + 1 } else { at }
 }
 
-// What stands between the first byte `after` and the next byte `until`; without the one it is empty, without the other it goes to the end.
+// What stands between the first byte `after` and the next byte `until`. Where one of them isn't there, the end is in its place.
 pub fn between(s: &[u8], after: u8, until: u8) -> &[u8] {
     let start = past(find(s, 0, after), s.len());
     let end = find(s, start, until);
     &s[start..end]
 }
 
-// The value of a digit; 16 for any other byte.
+// The value of a digit; 16 for a byte that may stand between digits.
 fn digit(c: u8) -> u64
     ensures { λ r. ⌜ r ≤ 16 ⌝ }
 {
     match c {
         b'0'..=b'9' => (c - b'0') as u64,
         b'a'..=b'f' => (c - b'a') as u64 + 10,
-        _ => 16,
+        b' ' | b'=' | b'x' | b'_' => 16,
+        _ => {
+            printing::bad_line();
+            16
+        }
     }
 }
 
-// The base of the number that a byte belongs to, after the base before it: 0 between numbers.
+// The base of the number that a byte belongs to, given the base of the byte before it. Between numbers it is 0.
 fn base_after(base: u64, c: u8) -> u64 {
     match c {
         b' ' | b'=' => 0,
@@ -70,7 +75,7 @@ fn grown(n: u64, base: u64, c: u8) -> u64 {
     }
 }
 
-// The place of the number that begins where the base is no longer 0. After the last comes the first, which is none's.
+// A number begins where the base is 0 no longer.
 fn place_after(place: usize, before: u64, base: u64) -> usize
     requires { ⌜ place < 32 ⌝ }
     ensures { λ r. ⌜ r < 32 ⌝ }
@@ -81,10 +86,15 @@ fn place_after(place: usize, before: u64, base: u64) -> usize
     if base == 0 {
         return place;
     }
-    (place + 1) % PLACES
+    if place < PLACES - 1 {
+        place + 1
+    } else {
+        printing::bad_line();
+        place
+    }
 }
 
-// Reads the numbers between the first word of a line and its bar, in decimal or from 0x on in hexadecimal. Answers the last one's place.
+// Reads the numbers between the first word of a line and its bar, decimal ones and, after 0x, hexadecimal ones. Answers the place of the last.
 pub fn read_numbers(line: &[u8], to: &mut [u64; PLACES]) -> usize
     ensures { λ r. ⌜ r < 32 ⌝ }
 {

@@ -11,16 +11,16 @@ mod reports;
 mod superblocks;
 
 use image::IMAGE_BYTES;
-use image::SUPER_BYTES;
 use libc::STDIN_FILENO;
 use lines::PLACES;
+use superblock::SUPER_BYTES;
 
-// A line's first letter says what it is.
+// The first letter of a line says what it is. Comments and empty lines hold nothing to run.
 fn kind_of(line: &[u8]) -> u8 {
     if line.len() == 0 { b'#' } else { line[0] }
 }
 
-// Where the words stand that a vector has stored.
+// The place of a vector's first word, behind the numbers of its own.
 fn words_from(kind: u8) -> usize {
     match kind {
         b's' | b'r' => 2,
@@ -37,7 +37,7 @@ fn answer(kind: u8, numbers: &[u64; PLACES], text: &[u8], image: &[u8; IMAGE_BYT
         b'o' => option_texts::show(text),
         b'z' => records::show(numbers),
         b'm' => mounts::show(numbers, text, image),
-        _ => {}
+        _ => printing::bad_line(),
     }
 }
 
@@ -59,11 +59,13 @@ fn run_vector(
 }
 
 fn run_line(line: &[u8], image: &mut [u8; IMAGE_BYTES]) {
+    let kind = kind_of(line);
+    if kind == b'#' {
+        return;
+    }
     let mut numbers = [0u64; PLACES];
     let last = lines::read_numbers(line, &mut numbers);
-    let kind = kind_of(line);
     match kind {
-        b'#' => {}
         b'i' => {
             *image = [0u8; IMAGE_BYTES];
             image::put_words(image, &numbers, 1, last);

@@ -2,9 +2,9 @@
 ghost use Prim.Native.Nat.{_≤_};
 use crate::image;
 use crate::image::REPORT_BYTES;
-use crate::image::SUPER_BYTES;
 use crate::lines::PLACES;
 use crate::printing;
+use superblock::SUPER_BYTES;
 use types::MountAnswer;
 
 // A table has two rows and a word left over.
@@ -41,6 +41,7 @@ fn lent(words: u64) -> usize
     if words <= TABLE_WORDS as u64 {
         words as usize
     } else {
+        printing::bad_line();
         TABLE_WORDS
     }
 }

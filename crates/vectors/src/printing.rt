@@ -1,4 +1,4 @@
-// What vectors print: numbers, each after a space, and refusals.
+// What vectors write: numbers, each after a space, and refusals.
 use libc::STDOUT_FILENO;
 use types::Refusal;
 use types::Values;
@@ -27,6 +27,11 @@ fn values(v: Values) {
             number(y);
         }
     }
+}
+
+// For a line that isn't written as `stdin` says: no stored line has these words, so the comparison of what is written fails.
+pub fn bad_line() {
+    text(b" bad line");
 }
 
 // A refusal's number, and its values.

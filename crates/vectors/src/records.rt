@@ -1,14 +1,10 @@
-// A vector of a zone record, for a block of 4,096 bytes: good input or bad.
+// A vector of a zone record: whether it is good input.
 use crate::lines::PLACES;
 use crate::printing;
 use zones::Zone;
 
-// The block in sectors.
+// A block of 4,096 bytes, in sectors.
 pub const UNIT: u64 = 8;
-
-fn byte(n: u64) -> u8 {
-    (n % 256) as u8
-}
 
 // The numbers are the record's fields, in the order of `Zone`.
 pub fn show(numbers: &[u64; PLACES]) {
@@ -16,8 +12,8 @@ pub fn show(numbers: &[u64; PLACES]) {
         start: numbers[1],
         length: numbers[2],
         pointer: numbers[3],
-        kind: byte(numbers[4]),
-        condition: byte(numbers[5]),
+        kind: (numbers[4] % 256) as u8,
+        condition: (numbers[5] % 256) as u8,
         capacity: numbers[6],
     };
     if zones::good_record(z, UNIT) {

@@ -4,7 +4,7 @@ use libc::STDOUT_FILENO;
 use superblock::SuperBlock;
 use types::Verdict;
 
-fn uuid(bytes: [u8; 16]) {
+fn print_uuid(bytes: [u8; 16]) {
     printing::text(b" ");
     for i in 0..16 {
         let byte = bytes[i];
@@ -12,7 +12,7 @@ fn uuid(bytes: [u8; 16]) {
     }
 }
 
-fn fields(s: SuperBlock) {
+fn print_fields(s: SuperBlock) {
     printing::numbers(
         &[
             0,
@@ -23,7 +23,7 @@ fn fields(s: SuperBlock) {
         ],
     );
     let bytes = s.uuid;
-    uuid(bytes);
+    print_uuid(bytes);
 }
 
 pub fn show(b: &[u8]) {
@@ -31,7 +31,7 @@ pub fn show(b: &[u8]) {
     let check = read.check;
     let found = read.fields;
     match check {
-        Verdict::Passed => fields(found),
+        Verdict::Passed => print_fields(found),
         Verdict::Refused(x) => printing::refusal(x),
     }
 }

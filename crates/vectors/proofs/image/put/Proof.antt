@@ -2,6 +2,7 @@ use borrow.Author.Needs.{needs}
 use Prim.Native.Nat.{_≤_, _-_}
 use Rattle.vectors.proofs.image.put.Statement.{statement}
 use Rattle.vectors.proofs.image.put.Tie as tie
+use Rattle.vectors.proofs.printing.bad_line.Reads as bad-line-reads
 
 abbrev Inv-loop : tie.InvT-loop
 Inv-loop image₀ at word start rest₀ i₀ image rest i = i ≤ 8
@@ -33,6 +34,9 @@ loop-less c = search needs
 loop-again : tie.Need-loop-again Inv-loop μ-loop
 loop-again c = search needs
 
+bad-line-requires : tie.Need-bad-line-requires Inv-loop μ-loop
+bad-line-requires c κs = search needs
+
 returns : tie.Need-returns Inv-loop μ-loop
 returns c = search needs
 
@@ -53,5 +57,6 @@ put-spec =
     add-i
     loop-less
     loop-again
+    bad-line-requires
     returns
     returns-2)

@@ -1,7 +1,7 @@
 use borrow.Author.Needs.{needs}
 use Prim.Native.Nat.{_≤_, _-_}
-use Rattle.vectors.proofs.superblocks.uuid.Statement.{statement}
-use Rattle.vectors.proofs.superblocks.uuid.Tie as tie
+use Rattle.vectors.proofs.superblocks.print_uuid.Statement.{statement}
+use Rattle.vectors.proofs.superblocks.print_uuid.Tie as tie
 use Rattle.io.proofs.print_hex.Reads as print-hex-reads
 use Rattle.vectors.proofs.printing.text.Reads as text-reads
 
@@ -41,8 +41,8 @@ loop-again c = search needs
 returns : tie.Need-returns Inv-loop μ-loop
 returns c = search needs
 
-pub uuid-spec : {M : Type 1} → statement M
-uuid-spec =
+pub print-uuid-spec : {M : Type 1} → statement M
+print-uuid-spec =
     tie.close
     (tie.spec
     Inv-loop
