@@ -6,6 +6,7 @@ ghost use Prim.Native.Nat.{_≤_, _<_};
 ghost use lib.ListN.{length, take};
 ghost use Rattle.tape_lines.specs.Facts.{lineRoom};
 ghost use Rattle.tape_pieces.specs.Pieces.{longestOpening};
+ghost use Rattle.tape_pieces.specs.Facts.{Continues, holdingOf};
 use libc::STDERR_FILENO;
 use libc::STDIN_FILENO;
 use libc::STDOUT_FILENO;
@@ -54,11 +55,11 @@ fn read_once(fd: i32, name: &[u8], b: &mut [u8], have: usize) -> Input
     }
 }
 
-// Reads until `b` is full or the input has ended; the first `have` bytes stay as they are. A read that isn't the last brings a byte at least,
-// so that this ends.
+// Reads until `b` is full or the input has ended, and nothing where it had; the first `have` bytes stay as they are. A read that isn't the last
+// brings a byte at least, so that this ends.
 fn fill(fd: i32, name: &[u8], b: &mut [u8], have: usize, ended: bool) -> Input
     requires { ⌜ have ≤ length (now b) ⌝ }
-    ensures { λ r. ⌜ (have ≤ r .have) × (r .have ≤ length (now (b .entry))) × (r .ended ≡ false → r .have ≡ length (now (b .entry))) ⌝ }
+    ensures { λ r. ⌜ (have ≤ r .have) × (r .have ≤ length (now (b .entry))) × (r .ended ≡ false → r .have ≡ length (now (b .entry))) × (ended ≡ true → r .have ≡ have) ⌝ }
     ensures { λ _. ⌜ take have (now (b .exit)) ≡ take have (now (b .entry)) ⌝ }
 {
     let mut input = Input {
@@ -83,7 +84,7 @@ fn write_lines(out: &[u8], end: usize) -> bool
     is_written
 }
 
-// Reads behind what is left, and plays on.
+// Reads behind what is left, and plays on: whatever the piece is that was read, what is written and kept is what `tape_pieces` defines for it.
 fn read_on(
     fd: i32,
     name: &[u8],
@@ -97,6 +98,7 @@ fn read_on(
     requires { ⌜ kept .left ≤ length (now b) ⌝ }
     ensures { λ r. ⌜ r .kept .left ≤ length (now (b .entry)) ⌝ }
     ensures { λ r. ⌜ (r .going ≡ true → r .kept .turned .to ≤ length (now (out .entry))) ⌝ }
+    ensures { λ r. ⌜ (r .going ≡ true → Continues (length (now (out .entry))) (holdingOf (now (b .entry)) ended kept (now (cnv .entry)) (now (seq .entry))) (r .ended) (now (b .exit)) (now (out .entry)) (now (out .exit)) (r .kept) (now (cnv .exit)) (now (seq .exit))) ⌝ }
 {
     let input = fill(fd, name, b, kept.left, ended);
     if input.failed {

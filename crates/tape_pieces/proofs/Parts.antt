@@ -1,13 +1,13 @@
 -- A part of a tape that was played: from its block and what is kept, and from the first four records and what is played after them.
 -- Assumes nothing.
 use mathlib.Core.Path.{_≡_, refl, sym, ap, subst, _∙_}
-use mathlib.Core.List.{List}
-use mathlib.Core.Bool.{Bool}
+use mathlib.Core.List.{List, _++_}
+use mathlib.Core.Bool.{Bool, true}
 use Prim.Native.Nat.{ℕ, _≤_}
 use native.Mathlib.Omega.{arith}
 use native.Mathlib.Nat.{zero-add}
-use lib.ListN.{length, drop, length-drop}
-use lib.Seq.{sets, length-sets}
+use lib.ListN.{length, take, drop, length-take, length-drop, take-append-drop, drop-of-length-le}
+use lib.Seq.{sets, length-sets, take-take}
 use Rattle.text.specs.Facts.{Put}
 use Rattle.text.proofs.Stores.{then}
 use Rattle.tape_lines.specs.Facts.{lineRoom}
@@ -17,8 +17,9 @@ use Rattle.tape_turns.specs.Facts.{restOf, Takes}
 use Rattle.tape_pieces.specs.declared.Kept.{Kept}
 use Rattle.tape.specs.Blocks.{blockOf}
 use Rattle.tape.specs.Facts.{Plays}
-use Rattle.tape_pieces.specs.Pieces.{partOf, pieceOf, firstPart}
-use Rattle.tape_pieces.specs.Facts.{Keeps}
+use Rattle.tape_pieces.specs.Pieces.{Part, partOf, pieceOf, firstPart, nextPart}
+use Rattle.tape_pieces.specs.Facts.{Keeps, Continues, holdingOf}
+use Rattle.tape.proofs.Stores.{first-part}
 use Rattle.tape.proofs.Texts.{atFront}
 
 -- the next record of a rest comes at the front
@@ -64,4 +65,30 @@ first-keeps {buffer} {kept} {before} {mid} {after} {cnv'} {seq'} {cnv''} {seq''}
       rest = g .rest;
       short = g .short;
       inside = λ _. omega (arith, same, g .inside (omega (arith, same, wide, p .room)));
+    }
+
+-- ---- from a buffer that was read into
+
+-- the bytes that are there are those that were there, and the piece behind them
+behind : (before now : List ℕ) (have n : ℕ) → have ≤ n → take have now ≡ take have before → take n now ≡ take have before ++ drop have (take n now)
+behind before now have n h e = sym (take-append-drop have (take n now)) ∙ ap (λ (l : List ℕ). l ++ drop have (take n now)) (take-take have n now h ∙ e)
+
+pub continues : {buffer kept before after cnv' seq' : List ℕ} {r : Kept} (old cnv seq : List ℕ) (n : ℕ) (k : Kept) (ended was : Bool) (room : ℕ)
+    → k .left ≤ n → take (k .left) buffer ≡ take (k .left) old → (was ≡ true → n ≡ k .left)
+    → Keeps (partOf ended (take n buffer) 0 room (restOf (k .turned) cnv seq)) buffer kept before after 0 r cnv' seq'
+    → Continues room (holdingOf old was k cnv seq) ended kept before after r cnv' seq'
+continues {buffer} {kept} {before} {after} {cnv'} {seq'} {r} old cnv seq n k ended was room h e over p =
+    let piece = drop (k .left) (take n buffer) in
+    let part = partOf ended (take n buffer) 0 room (restOf (k .turned) cnv seq) in
+    let same : part ≡ nextPart room (holdingOf old was k cnv seq) (pieceOf piece ended) =
+    ap (λ (l : List ℕ). partOf ended l 0 room (restOf (k .turned) cnv seq)) (behind old buffer (k .left) n h e) in
+    let fits : length (part .held .bytes) ≤ length buffer = omega (arith, p .held, p .short) in
+    let front : take (r .left) kept ≡ part .held .bytes =
+    ap (λ (m : ℕ). take m kept) (p .held) ∙ ap (take (length (part .held .bytes))) (p .front) ∙ first-part buffer (part .held .bytes) fits in
+    record {
+      bytes = piece;
+      none = λ d. drop-of-length-le (take n buffer) {i = k .left} (omega (arith, over d, length-take n buffer));
+      lines = subst (λ (x : Part). Put before after 0 (r .turned .to) (x .text)) same (p .lines);
+      front = front ∙ ap (λ (x : Part). x .held .bytes) same;
+      rest = p .rest ∙ ap (λ (x : Part). x .held .rest) same;
     }

@@ -55,7 +55,7 @@ loop-again c =
     let r = c .before .before .before .before .before .before .before .before .read-on in
     let k = r .kept .1 .1 .1 .1 in
     let i = c .before .before .before .before .before .before .before .before .before .before .before .before .before .before .before .before .before .before .before .before .before .loop .inv in
-    (k .0 ∙ i .0, k .1 .0 ∙ i .1, k .1 .1 .0 ∙ i .2, k .1 .1 .1 .0 ∙ i .3, omega (arith, i .0, r .ensures .0), λ e. omega (arith, i .3, r .ensures .1 e))
+    (k .0 ∙ i .0, k .1 .0 ∙ i .1, k .1 .1 .0 ∙ i .2, k .1 .1 .1 .0 ∙ i .3, omega (arith, i .0, r .ensures .0), λ e. omega (arith, i .3, r .ensures .1 .0 e))
 
 same-length-5 : tie.Need-same-length-5 Inv-loop μ-loop
 same-length-5 c = c .before .before .loop .inv .0
