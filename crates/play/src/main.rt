@@ -33,14 +33,13 @@ pub struct Playing {
 }
 
 // Reads once, behind the first `have` bytes, which stay as they are.
-fn read_once(fd: i32, name: &[u8], b: &mut [u8], have: usize) -> Input
+fn read_once(fd: i32, b: &mut [u8], have: usize) -> Input
     requires { ⌜ have ≤ length (now b) ⌝ }
     ensures { λ r. ⌜ (have ≤ r .have) × (r .have ≤ length (now (b .entry))) × (r .ended ≡ false → have < r .have) ⌝ }
     ensures { λ _. ⌜ take have (now (b .exit)) ≡ take have (now (b .entry)) ⌝ }
 {
     let got = libc::read(fd, &mut b[have..]);
     if got < 0 {
-        os::fail(name);
         return Input {
             have,
             ended: true,
@@ -57,7 +56,7 @@ fn read_once(fd: i32, name: &[u8], b: &mut [u8], have: usize) -> Input
 
 // Reads until `b` is full or the input has ended, and nothing where it had; the first `have` bytes stay as they are. A read that isn't the last
 // brings a byte at least, so that this ends.
-fn fill(fd: i32, name: &[u8], b: &mut [u8], have: usize, ended: bool) -> Input
+fn fill(fd: i32, b: &mut [u8], have: usize, ended: bool) -> Input
     requires { ⌜ have ≤ length (now b) ⌝ }
     ensures { λ r. ⌜ (have ≤ r .have) × (r .have ≤ length (now (b .entry))) × (r .ended ≡ false → r .have ≡ length (now (b .entry))) × (ended ≡ true → r .have ≡ have) ⌝ }
     ensures { λ _. ⌜ take have (now (b .exit)) ≡ take have (now (b .entry)) ⌝ }
@@ -68,7 +67,7 @@ fn fill(fd: i32, name: &[u8], b: &mut [u8], have: usize, ended: bool) -> Input
         failed: false,
     };
     while !input.ended & (input.have < b.len()) {
-        input = read_once(fd, name, b, input.have);
+        input = read_once(fd, b, input.have);
     }
     input
 }
@@ -87,7 +86,6 @@ fn write_lines(out: &[u8], end: usize) -> bool
 // Reads behind what is left, and plays on: whatever the piece is that was read, what is written and kept is what `tape_pieces` defines for it.
 fn read_on(
     fd: i32,
-    name: &[u8],
     kept: Kept,
     ended: bool,
     b: &mut [u8],
@@ -100,7 +98,7 @@ fn read_on(
     ensures { λ r. ⌜ (r .going ≡ true → r .kept .turned .to ≤ length (now (out .entry))) ⌝ }
     ensures { λ r. ⌜ (r .going ≡ true → Continues (length (now (out .entry))) (holdingOf (now (b .entry)) ended kept (now (cnv .entry)) (now (seq .entry))) (r .ended) (now (b .exit)) (now (out .entry)) (now (out .exit)) (r .kept) (now (cnv .exit)) (now (seq .exit))) ⌝ }
 {
-    let input = fill(fd, name, b, kept.left, ended);
+    let input = fill(fd, b, kept.left, ended);
     if input.failed {
         return Playing {
             kept,
@@ -118,16 +116,15 @@ fn read_on(
 }
 
 // Writes the lines of a part and plays on, until the tape is over. A proved loop has to end, and nothing says that the input does: so its turns
-// are counted down, from a number that no run uses up.
+// are counted down, from a number that no run uses up. Answers whether all that was asked for could be read.
 fn play_on(
     fd: i32,
-    name: &[u8],
     p: Playing,
     b: &mut [u8],
     cnv: &mut [u64],
     seq: &mut [u64],
     out: &mut [u8],
-)
+) -> bool
     requires { ⌜ (p .kept .left ≤ length (now b)) × (p .going ≡ true → p .kept .turned .to ≤ length (now out)) ⌝ }
 {
     let mut p = p;
@@ -137,20 +134,21 @@ fn play_on(
         let turned = kept.turned;
         let is_written = write_lines(&out[..], turned.to);
         if !is_written | tape_pieces::is_over(turned.more, p.ended, kept.left) {
-            return;
+            return true;
         }
-        p = read_on(fd, name, kept, p.ended, b, cnv, seq, out);
+        p = read_on(fd, kept, p.ended, b, cnv, seq, out);
         turns -= 1;
     }
+    p.going
 }
 
-// Reads a tape's first bytes, plays the records that open it and those after them, and then the others.
-fn play_tape(fd: i32, name: &[u8], b: &mut [u8], cnv: &mut [u64], seq: &mut [u64], out: &mut [u8])
+// Reads a tape's first bytes, plays the records that open it and those after them, and then the others. Answers as `play_on` does.
+fn play_tape(fd: i32, b: &mut [u8], cnv: &mut [u64], seq: &mut [u64], out: &mut [u8]) -> bool
     requires { ⌜ (longestOpening ≤ length (now b)) × (lineRoom ≤ length (now out)) ⌝ }
 {
-    let input = fill(fd, name, b, 0, false);
+    let input = fill(fd, b, 0, false);
     if input.failed {
-        return;
+        return false;
     }
     let kept = tape_pieces::first_part(b, input.have, input.ended, cnv, seq, out);
     let p = Playing {
@@ -158,16 +156,19 @@ fn play_tape(fd: i32, name: &[u8], b: &mut [u8], cnv: &mut [u64], seq: &mut [u64
         ended: input.ended,
         going: true,
     };
-    play_on(fd, name, p, b, cnv, seq, out);
+    play_on(fd, p, b, cnv, seq, out)
 }
 
-// Plays the tape of an open file, with tables for as many files as there can be.
+// Plays the tape of an open file, with tables for as many files as there can be. Where it can't be read, it tells so by this name.
 fn play_file(fd: i32, name: &[u8]) {
     let mut b = [0u8; READ_BYTES];
     let mut out = [0u8; WRITE_BYTES];
     let mut cnv = [0u64; TABLE_WORDS];
     let mut seq = [0u64; TABLE_WORDS];
-    play_tape(fd, name, &mut b, &mut cnv, &mut seq, &mut out);
+    let is_read = play_tape(fd, &mut b, &mut cnv, &mut seq, &mut out);
+    if !is_read {
+        os::fail(name);
+    }
 }
 
 // Plays the tape in the file of this name.

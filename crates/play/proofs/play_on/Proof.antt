@@ -10,15 +10,15 @@ use Rattle.play.proofs.play_on.Statement.{statement}
 use Rattle.play.proofs.play_on.Tie as tie
 
 abbrev Inv-loop : tie.InvT-loop
-Inv-loop fd name b₀ cnv₀ seq₀ out₀ p₀ turns₀ b cnv seq out p turns =
+Inv-loop fd b₀ cnv₀ seq₀ out₀ p₀ turns₀ b cnv seq out p turns =
     (length b ≡ length b₀) × (length cnv ≡ length cnv₀) × (length seq ≡ length seq₀) × (length out ≡ length out₀)
     × (p .kept .left ≤ length b₀) × (p .going ≡ true → p .kept .turned .to ≤ length out₀)
 
 abbrev μ-loop : tie.MeasureT-loop
-μ-loop fd name b₀ cnv₀ seq₀ out₀ p₀ turns₀ b cnv seq out p turns = turns
+μ-loop fd b₀ cnv₀ seq₀ out₀ p₀ turns₀ b cnv seq out p turns = turns
 
 loop-holds : tie.Need-loop-holds Inv-loop μ-loop
-loop-holds c = (refl, refl, refl, refl, c .before .before .before .before .before .pre .0, c .before .before .before .before .before .pre .1)
+loop-holds c = (refl, refl, refl, refl, c .before .before .before .before .pre .0, c .before .before .before .before .pre .1)
 
 write-lines-requires : tie.Need-write-lines-requires Inv-loop μ-loop
 write-lines-requires c κs = let l = c .before .before .before .before .before .loop in omega (arith, l .inv .3, l .inv .5 (and-right (ltb 0 (l .turns)) _ (c .before .before .before .if1 .taken)))
@@ -53,7 +53,7 @@ loop-less c = omega (arith, ltb-true 0 (c .before .before .before .before .befor
 loop-again : tie.Need-loop-again Inv-loop μ-loop
 loop-again c =
     let r = c .before .before .before .before .before .before .before .before .read-on in
-    let k = r .kept .1 .1 .1 .1 in
+    let k = r .kept .1 .1 .1 in
     let i = c .before .before .before .before .before .before .before .before .before .before .before .before .before .before .before .before .before .before .before .before .before .loop .inv in
     (k .0 ∙ i .0, k .1 .0 ∙ i .1, k .1 .1 .0 ∙ i .2, k .1 .1 .1 .0 ∙ i .3, omega (arith, i .0, r .ensures .0), λ e. omega (arith, i .3, r .ensures .1 .0 e))
 

@@ -15,8 +15,8 @@ returns c = search needs
 first-part-requires : tie.Need-first-part-requires
 first-part-requires c κs =
     let f = c .before .before .before .before .before .before .before .fill in
-    let pre = c .before .before .before .before .before .before .before .before .before .before .before .before .before .before .pre in
-    (omega (arith, f .ensures .0 .1, f .kept .1 .1 .0), pre .1, λ e. omega (arith, pre .0, f .ensures .0 .2 e))
+    let pre = c .before .before .before .before .before .before .before .before .before .before .before .before .before .pre in
+    (omega (arith, f .ensures .0 .1, f .kept .1 .0), pre .1, λ e. omega (arith, pre .0, f .ensures .0 .2 e))
 
 play-on-requires : tie.Need-play-on-requires
 play-on-requires c κs =

@@ -25,14 +25,11 @@ part-read-end c = search needs
 read-requires : tie.Need-read-requires
 read-requires c κs = search needs
 
-fail-requires : tie.Need-fail-requires
-fail-requires c κs = search needs
-
 same-length : tie.Need-same-length
 same-length c = search needs
 
 returns : tie.Need-returns
-returns c = let a = c .before .before .before .before .before .before .before .before .args in ((omega arith, c .before .before .before .before .before .before .before .before .pre, λ e. absurd (false≢true (sym e))), take-at (take (a .have) (a .b .now)) _ (a .have) (length-take-le (a .have) (a .b .now) (c .before .before .before .before .before .before .before .before .pre)))
+returns c = let a = c .before .before .before .before .before .before .args in ((omega arith, c .before .before .before .before .before .before .pre, λ e. absurd (false≢true (sym e))), take-at (take (a .have) (a .b .now)) _ (a .have) (length-take-le (a .have) (a .b .now) (c .before .before .before .before .before .before .pre)))
 
 sub-count : tie.Need-sub-count
 sub-count c = search needs
@@ -46,14 +43,14 @@ part-count-end c = search needs
 count-requires : tie.Need-count-requires
 count-requires c κs = search needs
 
-add-t8 : tie.Need-add-t8
-add-t8 c = search needs
+add-t7 : tie.Need-add-t7
+add-t7 c = search needs
 
 same-length-2 : tie.Need-same-length-2
 same-length-2 c = search needs
 
 returns-2 : tie.Need-returns-2
-returns-2 c = let a = c .before .before .before .before .before .before .before .before .before .before .args in ((omega arith, omega arith, λ e. omega (arith, some (c .count .result) e)), take-at (take (a .have) (a .b .now)) _ (a .have) (length-take-le (a .have) (a .b .now) (c .before .before .before .before .before .before .before .before .before .before .pre)))
+returns-2 c = let a = c .before .before .before .before .before .before .before .before .before .args in ((omega arith, omega arith, λ e. omega (arith, some (c .count .result) e)), take-at (take (a .have) (a .b .now)) _ (a .have) (length-take-le (a .have) (a .b .now) (c .before .before .before .before .before .before .before .before .before .pre)))
 
 pub read-once-spec : {M : Type 1} → statement M
 read-once-spec =
@@ -63,13 +60,12 @@ read-once-spec =
     part-read-start
     part-read-end
     read-requires
-    fail-requires
     same-length
     returns
     sub-count
     part-count-start
     part-count-end
     count-requires
-    add-t8
+    add-t7
     same-length-2
     returns-2)
