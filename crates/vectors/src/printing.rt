@@ -18,26 +18,17 @@ pub fn numbers(words: &[u64]) {
     }
 }
 
-fn values(v: Values) {
-    match v {
-        Values::Nothing => {}
-        Values::One(x) => number(x),
-        Values::Two(x, y) => {
-            number(x);
-            number(y);
-        }
-    }
-}
-
 // For a line that isn't written as `stdin` says: no stored line has these words, so the comparison of what is written fails.
 pub fn bad_line() {
     text(b" bad line");
 }
 
-// A refusal's number, and its values.
+// A refusal's number, and its value if it has one: the number of a bad zone.
 pub fn refusal(x: Refusal) {
     let code = types::answers::refusal_code(x);
     number(code.number);
-    let told = code.values;
-    values(told);
+    let values = code.values;
+    if let Values::One(value) = values {
+        number(value);
+    }
 }
