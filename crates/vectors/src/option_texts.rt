@@ -3,16 +3,12 @@ use crate::printing;
 use options::Options;
 use types::Refusal;
 
-fn print_options(o: Options) {
-    match o {
+pub fn show(text: &[u8]) {
+    match options::read_options(text) {
         Options::Policy(p) => {
             printing::number(0);
             printing::number(types::codes::policy_code(p));
         }
         Options::Bad => printing::refusal(Refusal::BadOptions),
     }
-}
-
-pub fn show(text: &[u8]) {
-    print_options(options::read_options(text));
 }

@@ -18,14 +18,10 @@ fn zone_of(numbers: &[u64; PLACES]) -> Zone {
     }
 }
 
-fn print_good(good: bool) {
-    if good {
+pub fn show(numbers: &[u64; PLACES]) {
+    if zones::good_record(zone_of(numbers), UNIT) {
         printing::text(b" good");
     } else {
         printing::text(b" bad");
     }
-}
-
-pub fn show(numbers: &[u64; PLACES]) {
-    print_good(zones::good_record(zone_of(numbers), UNIT));
 }

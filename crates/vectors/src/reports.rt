@@ -6,17 +6,13 @@ use crate::records::UNIT;
 use superblock::SUPER_BYTES;
 use types::Verdict;
 
-fn print_check(check: Verdict) {
+fn show_report(report: &[u8]) {
+    let read = report::check_report(report, UNIT, false);
+    let check = read.check;
     match check {
         Verdict::Passed => printing::number(0),
         Verdict::Refused(x) => printing::refusal(x),
     }
-}
-
-fn show_report(report: &[u8]) {
-    let read = report::check_report(report, UNIT, false);
-    let check = read.check;
-    print_check(check);
 }
 
 // The number is how many bytes are lent.

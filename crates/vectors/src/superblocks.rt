@@ -27,18 +27,14 @@ fn print_fields(s: SuperBlock) {
     print_uuid(bytes);
 }
 
-fn print_read(check: Verdict, fields: SuperBlock) {
-    match check {
-        Verdict::Passed => print_fields(fields),
-        Verdict::Refused(x) => printing::refusal(x),
-    }
-}
-
 fn show_super(b: &[u8]) {
     let read = superblock::read_superblock(b);
     let check = read.check;
     let fields = read.fields;
-    print_read(check, fields);
+    match check {
+        Verdict::Passed => print_fields(fields),
+        Verdict::Refused(x) => printing::refusal(x),
+    }
 }
 
 // The number is how many bytes are lent.
