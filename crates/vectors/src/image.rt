@@ -37,10 +37,10 @@ pub fn put_words(image: &mut [u8; IMAGE_BYTES], numbers: &[u64; PLACES], from: u
 }
 
 // `count` bytes from `from` on.
-pub fn part(image: &[u8], from: usize, count: usize) -> &[u8] {
+pub fn part(image: &[u8], from: usize, count: u64) -> &[u8] {
     if from <= image.len() {
-        if count <= image.len() - from {
-            return &image[from..from + count];
+        if count <= (image.len() - from) as u64 {
+            return &image[from..from + count as usize];
         }
     }
     printing::bad_line();

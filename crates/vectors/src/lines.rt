@@ -103,10 +103,11 @@ pub fn read_numbers(line: &[u8], to: &mut [u64; PLACES]) -> usize
     let end = find(line, 0, b'|');
     let mut i = find(line, 0, b' ');
     while i < end {
+        let c = line[i];
         let before = base;
-        base = base_after(before, line[i]);
+        base = base_after(before, c);
         place = place_after(place, before, base);
-        to[place] = grown(to[place], base, line[i]);
+        to[place] = grown(to[place], base, c);
         i += 1;
     }
     place

@@ -13,12 +13,6 @@ mod superblocks;
 use image::IMAGE_BYTES;
 use libc::STDIN_FILENO;
 use lines::PLACES;
-use superblock::SUPER_BYTES;
-
-// The first letter of a line says what it is. Comments and empty lines hold nothing to run.
-fn kind_of(line: &[u8]) -> u8 {
-    if line.len() == 0 { b'#' } else { line[0] }
-}
 
 // The place of a vector's first word, behind the numbers of its own.
 fn words_from(kind: u8) -> usize {
@@ -32,8 +26,8 @@ fn words_from(kind: u8) -> usize {
 // What a vector answers.
 fn answer(kind: u8, numbers: &[u64; PLACES], text: &[u8], image: &[u8; IMAGE_BYTES]) {
     match kind {
-        b's' => superblocks::show(image::part(image, 0, numbers[1] as usize)),
-        b'r' => reports::show(image::part(image, SUPER_BYTES, numbers[1] as usize)),
+        b's' => superblocks::show(numbers, image),
+        b'r' => reports::show(numbers, image),
         b'o' => option_texts::show(text),
         b'z' => records::show(numbers),
         b'm' => mounts::show(numbers, text, image),
@@ -58,18 +52,19 @@ fn run_vector(
     printing::text(b"\n");
 }
 
+// The first letter of a line says what it is. Empty lines and comments hold nothing to run.
 fn run_line(line: &[u8], image: &mut [u8; IMAGE_BYTES]) {
-    let kind = kind_of(line);
+    if line.len() == 0 {
+        return;
+    }
+    let kind = line[0];
     if kind == b'#' {
         return;
     }
     let mut numbers = [0u64; PLACES];
     let last = lines::read_numbers(line, &mut numbers);
     match kind {
-        b'i' => {
-            *image = [0u8; IMAGE_BYTES];
-            image::put_words(image, &numbers, 1, last);
-        }
+        b'i' => *image = [0u8; IMAGE_BYTES],
         b'w' => image::put_words(image, &numbers, 1, last),
         _ => run_vector(kind, line, &numbers, last, image),
     }

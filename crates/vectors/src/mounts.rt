@@ -7,17 +7,28 @@ use crate::printing;
 use superblock::SUPER_BYTES;
 use types::MountAnswer;
 
-// A table has two rows and a word left over.
+// Two rows, and a word left over.
 const TABLE_WORDS: usize = 11;
 
 fn print_answer(answer: MountAnswer) {
     match answer {
         MountAnswer::Refused(x) => printing::refusal(x),
-        MountAnswer::Mounted(cnvs, seqs) => printing::numbers(&[0, cnvs as u64, seqs as u64]),
+        MountAnswer::Mounted(cnvs, seqs) => {
+            printing::number(0);
+            printing::number(cnvs as u64);
+            printing::number(seqs as u64);
+        }
     }
 }
 
-fn show_on(
+fn print_tables(cnv: &[u64], seq: &[u64]) {
+    printing::text(b"\n cnv");
+    printing::numbers(cnv);
+    printing::text(b"\n seq");
+    printing::numbers(seq);
+}
+
+fn show_mount(
     block: u64,
     superblock: &[u8],
     options: &[u8],
@@ -28,13 +39,26 @@ fn show_on(
     let outcome = mount::mount(block, superblock, options, report, cnv, seq);
     let answer = outcome.answer;
     print_answer(answer);
-    printing::text(b"\n cnv");
-    printing::numbers(cnv);
-    printing::text(b"\n seq");
-    printing::numbers(seq);
+    print_tables(cnv, seq);
 }
 
-// The words of a table that are lent.
+// Mounts with so many words of each table.
+fn show_on(block: u64, superblock: &[u8], options: &[u8], report: &[u8], cnvs: usize, seqs: usize)
+    requires { ⌜ (cnvs ≤ 11) × (seqs ≤ 11) ⌝ }
+{
+    let mut cnv = [7u64; TABLE_WORDS];
+    let mut seq = [7u64; TABLE_WORDS];
+    show_mount(
+        block,
+        superblock,
+        options,
+        report,
+        &mut cnv[0..cnvs],
+        &mut seq[0..seqs],
+    );
+}
+
+// How many words of a table are lent.
 fn lent(words: u64) -> usize
     ensures { λ r. ⌜ r ≤ 11 ⌝ }
 {
@@ -48,18 +72,12 @@ fn lent(words: u64) -> usize
 
 // The numbers are the block, how many bytes of the super block are lent, and how many words of each table.
 pub fn show(numbers: &[u64; PLACES], options: &[u8], image: &[u8]) {
-    let mut cnv = [7u64; TABLE_WORDS];
-    let mut seq = [7u64; TABLE_WORDS];
-    let cnvs = lent(numbers[3]);
-    let seqs = lent(numbers[4]);
-    let superblock = image::part(image, 0, numbers[2] as usize);
-    let report = image::part(image, SUPER_BYTES, REPORT_BYTES);
     show_on(
         numbers[1],
-        superblock,
+        image::part(image, 0, numbers[2]),
         options,
-        report,
-        &mut cnv[0..cnvs],
-        &mut seq[0..seqs],
+        image::part(image, SUPER_BYTES, REPORT_BYTES as u64),
+        lent(numbers[3]),
+        lent(numbers[4]),
     );
 }

@@ -5,7 +5,10 @@ use types::Refusal;
 
 pub fn show(text: &[u8]) {
     match options::read_options(text) {
-        Options::Policy(p) => printing::numbers(&[0, types::codes::policy_code(p)]),
+        Options::Policy(p) => {
+            printing::number(0);
+            printing::number(types::codes::policy_code(p));
+        }
         Options::Bad => printing::refusal(Refusal::BadOptions),
     }
 }

@@ -18,6 +18,11 @@ pub fn numbers(words: &[u64]) {
     }
 }
 
+// For a line that isn't written as `stdin` says: no stored line has these words, so the comparison of what is written fails.
+pub fn bad_line() {
+    text(b" bad line");
+}
+
 fn values(v: Values) {
     match v {
         Values::Nothing => {}
@@ -27,11 +32,6 @@ fn values(v: Values) {
             number(y);
         }
     }
-}
-
-// For a line that isn't written as `stdin` says: no stored line has these words, so the comparison of what is written fails.
-pub fn bad_line() {
-    text(b" bad line");
 }
 
 // A refusal's number, and its values.

@@ -7,16 +7,19 @@ use zones::Zone;
 pub const UNIT: u64 = 8;
 
 // The numbers are the record's fields, in the order of `Zone`.
-pub fn show(numbers: &[u64; PLACES]) {
-    let z = Zone {
+fn zone_of(numbers: &[u64; PLACES]) -> Zone {
+    Zone {
         start: numbers[1],
         length: numbers[2],
         pointer: numbers[3],
         kind: (numbers[4] % 256) as u8,
         condition: (numbers[5] % 256) as u8,
         capacity: numbers[6],
-    };
-    if zones::good_record(z, UNIT) {
+    }
+}
+
+pub fn show(numbers: &[u64; PLACES]) {
+    if zones::good_record(zone_of(numbers), UNIT) {
         printing::text(b" good");
     } else {
         printing::text(b" bad");

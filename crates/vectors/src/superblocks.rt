@@ -1,4 +1,6 @@
 // A vector of a super block: 0 and what its fields give, or the refusal.
+use crate::image;
+use crate::lines::PLACES;
 use crate::printing;
 use libc::STDOUT_FILENO;
 use superblock::SuperBlock;
@@ -7,8 +9,7 @@ use types::Verdict;
 fn print_uuid(bytes: [u8; 16]) {
     printing::text(b" ");
     for i in 0..16 {
-        let byte = bytes[i];
-        io::print_hex(STDOUT_FILENO, byte as u64, 2);
+        io::print_hex(STDOUT_FILENO, bytes[i] as u64, 2);
     }
 }
 
@@ -26,12 +27,17 @@ fn print_fields(s: SuperBlock) {
     print_uuid(bytes);
 }
 
-pub fn show(b: &[u8]) {
+fn show_super(b: &[u8]) {
     let read = superblock::read_superblock(b);
     let check = read.check;
-    let found = read.fields;
+    let fields = read.fields;
     match check {
-        Verdict::Passed => print_fields(found),
+        Verdict::Passed => print_fields(fields),
         Verdict::Refused(x) => printing::refusal(x),
     }
+}
+
+// The number is how many bytes are lent.
+pub fn show(numbers: &[u64; PLACES], image: &[u8]) {
+    show_super(image::part(image, 0, numbers[1]));
 }

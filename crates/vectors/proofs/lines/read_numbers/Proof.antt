@@ -23,8 +23,8 @@ find-requires-2 c κs = search needs
 loop-holds : tie.Need-loop-holds Inv-loop μ-loop
 loop-holds c = search needs
 
-shared-slice-read-base-after : tie.Need-shared-slice-read-base-after Inv-loop μ-loop
-shared-slice-read-base-after c = search needs
+shared-slice-read-c : tie.Need-shared-slice-read-c Inv-loop μ-loop
+shared-slice-read-c c = search needs
 
 base-after-requires : tie.Need-base-after-requires Inv-loop μ-loop
 base-after-requires c κs = search needs
@@ -37,9 +37,6 @@ mul-grown c = search needs
 
 element-copy-out-grown : tie.Need-element-copy-out-grown Inv-loop μ-loop
 element-copy-out-grown c = search needs
-
-shared-slice-read-grown : tie.Need-shared-slice-read-grown Inv-loop μ-loop
-shared-slice-read-grown c = search needs
 
 grown-requires : tie.Need-grown-requires Inv-loop μ-loop
 grown-requires c κs = search needs
@@ -71,12 +68,11 @@ read-numbers-spec =
     find-requires
     find-requires-2
     loop-holds
-    shared-slice-read-base-after
+    shared-slice-read-c
     base-after-requires
     place-after-requires
     mul-grown
     element-copy-out-grown
-    shared-slice-read-grown
     grown-requires
     mul-to
     element-write-to

@@ -20,8 +20,8 @@ text-requires c κs = search needs
 loop-holds : tie.Need-loop-holds Inv-loop μ-loop
 loop-holds c = search needs
 
-array-read-byte : tie.Need-array-read-byte Inv-loop μ-loop
-array-read-byte c = search needs
+array-read-print-hex : tie.Need-array-read-print-hex Inv-loop μ-loop
+array-read-print-hex c = search needs
 
 cast-print-hex : tie.Need-cast-print-hex Inv-loop μ-loop
 cast-print-hex c = search needs
@@ -50,7 +50,7 @@ print-uuid-spec =
     slice-aggregate-text
     text-requires
     loop-holds
-    array-read-byte
+    array-read-print-hex
     cast-print-hex
     print-hex-requires
     add-i
