@@ -58,7 +58,7 @@ fn read_once(fd: i32, b: &mut [u8], have: usize) -> Input
 // brings a byte at least, so that this ends.
 fn fill(fd: i32, b: &mut [u8], have: usize, ended: bool) -> Input
     requires { ⌜ have ≤ length (now b) ⌝ }
-    ensures { λ r. ⌜ (have ≤ r .have) × (r .have ≤ length (now (b .entry))) × (r .ended ≡ false → r .have ≡ length (now (b .entry))) × (ended ≡ true → r .have ≡ have) ⌝ }
+    ensures { λ r. ⌜ (have ≤ r .have) × (r .have ≤ length (now (b .entry))) × (r .ended ≡ false → r .have ≡ length (now (b .entry))) × (ended ≡ true → (r .have ≡ have) × (r .ended ≡ true)) ⌝ }
     ensures { λ _. ⌜ take have (now (b .exit)) ≡ take have (now (b .entry)) ⌝ }
 {
     let mut input = Input {

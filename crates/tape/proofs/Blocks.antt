@@ -14,6 +14,7 @@ use Rattle.tape_records.specs.declared.Mark.the-variants as mark
 use Rattle.tape_records.specs.declared.Record.{Record}
 use Rattle.tape_records.specs.declared.Record.the-variants.{OnFile, End, Broken}
 use Rattle.tape_records.specs.Records.{holds, recordBytes, recordOf, markAt, markedAt, recordAt}
+use Rattle.tape_lines.specs.Facts.{lineRoom}
 use Rattle.tape_turns.specs.Turns.{State, Rest, Turn, turnOf, turnAt}
 use Rattle.tape.specs.Tape.{goesFurther, textFrom}
 use Rattle.tape.specs.Blocks.{longestRecord, isTold, hasRoom, isReady, lineThen, blockFrom}
@@ -38,8 +39,8 @@ module _ (r : Rest) (ended : Bool) (b : List ℕ) (to room : ℕ) (e : isReady (
   ready-told : isTold ended (length b) (r .next) ≡ true
   ready-told = and-left (isTold ended (length b) (r .next)) _ (and-right (goesFurther b r) _ e)
 
-  pub ready-room : to + 96 ≤ room
-  ready-room = leb-true (to + 96) room (and-right (isTold ended (length b) (r .next)) _ (and-right (goesFurther b r) _ e))
+  pub ready-room : to + lineRoom ≤ room
+  ready-room = leb-true (to + lineRoom) room (and-right (isTold ended (length b) (r .next)) _ (and-right (goesFurther b r) _ e))
 
   further-still : (f : List ℕ) → goesFurther (b ++ f) r ≡ true
   further-still f =

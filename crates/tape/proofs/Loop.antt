@@ -12,7 +12,7 @@ use Rattle.text.proofs.Stores.{then, nothing}
 use Rattle.tape_turns.specs.declared.Turned.{Turned}
 use Rattle.tape_turns.specs.Turns.{Rest, Turn, turnAt}
 use Rattle.tape_turns.specs.Facts.{restOf, Takes}
-use Rattle.tape.specs.Blocks.{isReady, lineThen, blockFrom, blockOf}
+use Rattle.tape.specs.Blocks.{isReady, noTurn, lineThen, blockFrom, blockOf}
 use Rattle.tape.specs.Facts.{Plays}
 use Rattle.tape.proofs.Texts.{Enough, inside, next-enough, onward, left, left-less}
 use Rattle.tape.proofs.Blocks.{ready-further}
@@ -24,7 +24,7 @@ unfolding blockFrom
 next-block n ended b to room r e = rw e
 
 no-block : (n : ℕ) (ended : Bool) (b : List ℕ) (to room : ℕ) (r : Rest) → isReady (r .more) (r .next) ended (length b) to room ≡ false
-    → blockFrom n ended b to room r ≡ record { line = []; rest = r }
+    → blockFrom n ended b to room r ≡ noTurn r
 unfolding blockFrom
 no-block zero ended b to room r e = refl
 no-block (suc n) ended b to room r e = rw e
@@ -84,7 +84,7 @@ pub over : {whole : Turn} {before now b cnv seq : List ℕ} {ended : Bool} {from
     → Plays whole before now from t cnv seq
 over {whole} {before} {now} {b} {cnv} {seq} {ended} {from} {room} t g e =
     let r = restOf t cnv seq in
-    let s : record { line = g .sofar ++ []; rest = r } ≡ whole = ap (λ (x : Turn). lineThen (g .sofar) x) (sym (no-block (g .allowed) ended b (t .to) room r e)) ∙ g .split in
+    let s : lineThen (g .sofar) (noTurn r) ≡ whole = ap (λ (x : Turn). lineThen (g .sofar) x) (sym (no-block (g .allowed) ended b (t .to) room r e)) ∙ g .split in
     record {
       lines = subst (λ (l : List ℕ). Put before now from (t .to) l) (sym (append-nil (g .sofar)) ∙ ap (λ (x : Turn). x .line) s) (g .put);
       rest = ap (λ (x : Turn). x .rest) s;

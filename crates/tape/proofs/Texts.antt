@@ -16,6 +16,7 @@ use Rattle.tape_records.specs.declared.Record.the-variants.{OnFile, End, Broken
 use Rattle.tape_records.specs.Records.{recordAt}
 use Rattle.tape_turns.specs.Turns.{State, Rest, turnOf, turnAt}
 use Rattle.tape.specs.Tape.{goesFurther, textFrom}
+use Rattle.tape.specs.Blocks.{atFront}
 use Rattle.tape.proofs.Windows.{ahead, turn-before}
 
 -- ---- record by record
@@ -93,12 +94,9 @@ left-less b r after e f = subst (λ (n : ℕ). left b after < n) (sym all) (by (
 
 -- ---- from a part of the tape
 
--- the rest of a tape that stands so many bytes further on, and one whose next record is at the front
+-- the rest of a tape that stands so many bytes further on
 abbrev further : ℕ → Rest → Rest
 further k r = record { more = r .more; next = k + r .next; state = r .state }
-
-abbrev pub atFront : Rest → Rest
-atFront r = record { more = r .more; next = 0; state = r .state }
 
 goes-before : (b : List ℕ) (k : ℕ) (r : Rest) → k ≤ length b → goesFurther b (further k r) ≡ goesFurther (drop k b) r
 goes-before b k r h =

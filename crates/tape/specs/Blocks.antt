@@ -3,10 +3,11 @@ use Prim.Native.Nat.{ℕ, zero, suc, _+_}
 use mathlib.Core.List.{List, [], _++_}
 use mathlib.Core.Bool.{Bool, cond, _&&_, _||_}
 use lib.ListN.{length}
-use lib.Dec.{leb, ltb}
+use lib.Dec.{leb}
 use Rattle.tape_records.specs.Records.{failedBytes}
 use Rattle.tape_lines.specs.Facts.{lineRoom}
 use Rattle.tape_turns.specs.Turns.{Rest, Turn, turnAt}
+use Rattle.tape.specs.Tape.{isFurther}
 
 -- no record after the first four is longer
 abbrev pub longestRecord : ℕ
@@ -22,7 +23,11 @@ hasRoom to room = leb (to + lineRoom) room
 
 -- the next record can be played: there is one, it can be told, and there is room for its line
 abbrev pub isReady : Bool → ℕ → Bool → ℕ → ℕ → ℕ → Bool
-isReady more next ended have to room = (more && ltb next have) && (isTold ended have next && hasRoom to room)
+isReady more next ended have to room = isFurther more next have && (isTold ended have next && hasRoom to room)
+
+-- the rest of a tape whose bytes before the next record are gone
+abbrev pub atFront : Rest → Rest
+atFront r = record { more = r .more; next = 0; state = r .state }
 
 -- nothing is played
 abbrev pub noTurn : Rest → Turn

@@ -10,8 +10,11 @@ use Rattle.tape_turns.specs.Turns.{Rest, turnAt, openTurn}
 use Rattle.tape.specs.declared.Played.{Played}
 
 -- no record said "stop", and the tape goes on: after `MO` it may end between records, and nothing is printed for that
+abbrev pub isFurther : Bool → ℕ → ℕ → Bool
+isFurther more next have = more && ltb next have
+
 abbrev pub goesFurther : List ℕ → Rest → Bool
-goesFurther b r = r .more && ltb (r .next) (length b)
+goesFurther b r = isFurther (r .more) (r .next) (length b)
 
 -- the text of the rest of a tape, of n records at most
 unfoldable pub textFrom : ℕ → List ℕ → Rest → List ℕ

@@ -5,7 +5,6 @@ use mathlib.Core.List.{List, _++_}
 use mathlib.Core.Bool.{Bool, true, false, cond, _&&_}
 use Prim.Native.Nat.{ℕ, _+_, _*_, _≤_, _<_}
 use native.Mathlib.Omega.{arith}
-use Prim.Native.Char.{code}
 use lib.Dec.{leb}
 use lib.ListN.{length, getD, take, drop, length-append, length-drop, List·getD-append}
 use lib.Seq.{drop-append-le, take-append-le}
@@ -16,28 +15,20 @@ use Rattle.wire.specs.Le.{le}
 use Rattle.wire.proofs.Laws.{le-drop}
 use Rattle.mount.specs.Mount.{Mounting, mountOutcome}
 use Rattle.tape_records.specs.declared.Letters.{Letters}
-use Rattle.tape_records.specs.Records.{pair, markBytes, lettersAt, sameLetters, stands, superPlace, reportPlace, tapeZones, reportStart, countOf, reportLength, mountPlace, mountBytes, optionsStart, optionsLength, runPlace, mountLetters, startsWell, mountStands, opens, blockOf, superBytes, reportBytes, optionBytes}
+use Rattle.tape_records.specs.Records.{markBytes, lettersAt, sameLetters, stands, superPlace, reportPlace, tapeZones, reportStart, countOf, reportLength, mountPlace, mountBytes, optionsStart, optionsLength, runPlace, blockLetters, superLetters, reportLetters, mountLetters, startsWell, mountStands, opens, blockOf, superBytes, reportBytes, optionBytes}
 use Rattle.tape_records.specs.Facts.{longestReport}
 use Rattle.superblock.specs.SuperBlock.{superLength}
+use Rattle.zones.specs.Zone.{zoneBytes}
 use Rattle.report.specs.Report.{headerBytes}
 use Rattle.tape_turns.specs.Turns.{mounting, mountTurn, brokenTurn, openTurn}
 use Rattle.tape_pieces.specs.Pieces.{longestOpening}
 use Rattle.tape.proofs.Windows.{number-alike}
 use Rattle.tape.proofs.Blocks.{Inside}
 
-abbrev blockLetters : Letters
-blockLetters = pair (code "B") (code "K")
-
-abbrev superLetters : Letters
-superLetters = pair (code "S") (code "B")
-
-abbrev reportLetters : Letters
-reportLetters = pair (code "Z") (code "R")
-
 report-longest : (n : ℕ) → reportLength n ≤ longestReport
 report-longest n = by (leb n tapeZones) refl
   where
-    by : (t : Bool) → leb n tapeZones ≡ t → cond t (16 + 64 * n) 16 ≤ longestReport
+    by : (t : Bool) → leb n tapeZones ≡ t → cond t (headerBytes + zoneBytes * n) headerBytes ≤ longestReport
     by true e = omega (arith, leb-true n tapeZones e)
     by false e = omega arith
 

@@ -15,16 +15,11 @@ use Rattle.tape_turns.specs.declared.Turned.{Turned}
 use Rattle.tape_turns.specs.Turns.{Rest, openTurn}
 use Rattle.tape_turns.specs.Facts.{restOf, Takes}
 use Rattle.tape_pieces.specs.declared.Kept.{Kept}
-use Rattle.tape.specs.Blocks.{blockOf}
+use Rattle.tape.specs.Blocks.{atFront, blockOf}
 use Rattle.tape.specs.Facts.{Plays}
 use Rattle.tape_pieces.specs.Pieces.{Part, partOf, pieceOf, firstPart, nextPart}
-use Rattle.tape_pieces.specs.Facts.{Keeps, Continues, holdingOf}
+use Rattle.tape_pieces.specs.Facts.{frontTurned, Keeps, Continues, holdingOf}
 use Rattle.tape.proofs.Stores.{first-part}
-use Rattle.tape.proofs.Texts.{atFront}
-
--- the next record of a rest comes at the front
-abbrev pub frontTurned : Turned → Turned
-frontTurned t = record { to = t .to; more = t .more; next = 0; mount = t .mount }
 
 pub keeps : {buffer kept before after cnv seq : List ℕ} {to left : ℕ} {played turned : Turned} (ended : Bool) (held : List ℕ) (room : ℕ) (r : Rest)
     → Plays (blockOf ended held to room r) before after to played cnv seq → (to ≤ length before → played .to ≤ length before)
@@ -74,7 +69,7 @@ behind : (before now : List ℕ) (have n : ℕ) → have ≤ n → take have now
 behind before now have n h e = sym (take-append-drop have (take n now)) ∙ ap (λ (l : List ℕ). l ++ drop have (take n now)) (take-take have n now h ∙ e)
 
 pub continues : {buffer kept before after cnv' seq' : List ℕ} {r : Kept} (old cnv seq : List ℕ) (n : ℕ) (k : Kept) (ended was : Bool) (room : ℕ)
-    → k .left ≤ n → take (k .left) buffer ≡ take (k .left) old → (was ≡ true → n ≡ k .left)
+    → k .left ≤ n → take (k .left) buffer ≡ take (k .left) old → (was ≡ true → (n ≡ k .left) × (ended ≡ true))
     → Keeps (partOf ended (take n buffer) 0 room (restOf (k .turned) cnv seq)) buffer kept before after 0 r cnv' seq'
     → Continues room (holdingOf old was k cnv seq) ended kept before after r cnv' seq'
 continues {buffer} {kept} {before} {after} {cnv'} {seq'} {r} old cnv seq n k ended was room h e over p =
@@ -87,7 +82,8 @@ continues {buffer} {kept} {before} {after} {cnv'} {seq'} {r} old cnv seq n k end
     ap (λ (m : ℕ). take m kept) (p .held) ∙ ap (take (length (part .held .bytes))) (p .front) ∙ first-part buffer (part .held .bytes) fits in
     record {
       bytes = piece;
-      none = λ d. drop-of-length-le (take n buffer) {i = k .left} (omega (arith, over d, length-take n buffer));
+      none = λ d. drop-of-length-le (take n buffer) {i = k .left} (omega (arith, over d .0, length-take n buffer));
+      still = λ d. over d .1;
       lines = subst (λ (x : Part). Put before after 0 (r .turned .to) (x .text)) same (p .lines);
       front = front ∙ ap (λ (x : Part). x .held .bytes) same;
       rest = p .rest ∙ ap (λ (x : Part). x .held .rest) same;

@@ -11,7 +11,7 @@ use Rattle.tape_records.specs.Records.{mountBytes, reportStart}
 use Rattle.tape_records.specs.Facts.{longestReport}
 use Rattle.tape_turns.specs.Turns.{Rest, Turn, openTurn}
 use Rattle.tape.specs.Tape.{noRows, tapeText}
-use Rattle.tape.specs.Blocks.{longestRecord, lineThen, blockOf}
+use Rattle.tape.specs.Blocks.{longestRecord, atFront, lineThen, blockOf}
 
 -- ---- what is kept
 
@@ -33,7 +33,7 @@ partBy ended b t = record {
   held = record {
     bytes = drop (t .rest .next) b;
     ended = ended;
-    rest = record { more = t .rest .more; next = 0; state = t .rest .state };
+    rest = atFront (t .rest);
   };
 }
 

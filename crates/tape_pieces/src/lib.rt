@@ -7,7 +7,7 @@ ghost use lib.Seq.{sets};
 ghost use Rattle.tape_lines.specs.Facts.{lineRoom};
 ghost use Rattle.tape_turns.specs.Facts.{restOf};
 ghost use Rattle.tape_pieces.specs.Pieces.{partOf, pieceOf, longestOpening, firstPart, isOver};
-ghost use Rattle.tape_pieces.specs.Facts.{Keeps};
+ghost use Rattle.tape_pieces.specs.Facts.{frontTurned, Keeps};
 use tape_turns::Turned;
 
 // What playing a part of a tape left: what its last record did, and how many bytes at the front of the buffer aren't played yet.
@@ -41,7 +41,7 @@ fn keep_rest(b: &mut [u8], from: usize, have: usize) -> usize
 
 // The rest of a tape whose next record is at the front.
 fn at_front(t: Turned) -> Turned
-    ensures { λ r. ⌜ r ≡ record { to = t .to; more = t .more; next = 0; mount = t .mount } ⌝ }
+    ensures { λ r. ⌜ r ≡ frontTurned t ⌝ }
 {
     let mount = t.mount;
     Turned {

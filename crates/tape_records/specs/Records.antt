@@ -168,16 +168,25 @@ runPlace b = optionsStart b + optionsLength b
 abbrev pub stands : Letters → ℕ → List ℕ → ℕ → Bool
 stands l n b at = holds n b at && sameLetters (lettersAt b at) l
 
+-- "`BK`", "`SB`", "`ZR`", "`MO`"
+abbrev pub blockLetters : Letters
+blockLetters = pair (code "B") (code "K")
+
+abbrev pub superLetters : Letters
+superLetters = pair (code "S") (code "B")
+
+abbrev pub reportLetters : Letters
+reportLetters = pair (code "Z") (code "R")
+
+abbrev pub mountLetters : Letters
+mountLetters = pair (code "M") (code "O")
+
 -- the first three stand where they are due, as far as the report's header
 abbrev pub startsWell : List ℕ → Bool
 startsWell b =
-    stands (pair (code "B") (code "K")) superPlace b 0
-    && stands (pair (code "S") (code "B")) (markBytes + superLength) b superPlace
-    && stands (pair (code "Z") (code "R")) (markBytes + headerBytes) b reportPlace
-
--- "`MO`"
-abbrev pub mountLetters : Letters
-mountLetters = pair (code "M") (code "O")
+    stands blockLetters superPlace b 0
+    && stands superLetters (markBytes + superLength) b superPlace
+    && stands reportLetters (markBytes + headerBytes) b reportPlace
 
 abbrev pub mountStands : List ℕ → Bool
 mountStands b = stands mountLetters mountBytes b (mountPlace b) && leb (runPlace b) (length b)

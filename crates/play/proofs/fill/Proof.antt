@@ -68,7 +68,7 @@ returns c =
     let l = c .before .before .before .loop in
     let i = l .inv in
     let test = subst (λ (n : ℕ). not (l .input .ended) && ltb (l .input .have) n ≡ false) (i .0) (c .if1 .left) in
-    ((i .1, i .2, full (l .input .ended) (l .input .have) (length (c .before .before .before .before .before .args .b .now)) test (i .2), λ e. i .4 e .0), i .3)
+    ((i .1, i .2, full (l .input .ended) (l .input .have) (length (c .before .before .before .before .before .args .b .now)) test (i .2), i .4), i .3)
 
 pub fill-spec : {M : Type 1} → statement M
 fill-spec =
