@@ -20,7 +20,7 @@ use Rattle.checks.specs.declared.Checked.the-variants as checked
 use Rattle.checks.specs.Checks.{fileOf}
 use Rattle.checks.proofs.Laws.{file-reached, reached-file}
 use Rattle.decision.specs.Decision.{dispatched}
-use Rattle.calls.specs.Calls.{onFile, answered, settled, outcomeOf}
+use Rattle.calls.specs.Calls.{onFile, answered, settled, effectOf}
 use Rattle.calls.specs.Facts.{Admitted}
 
 module _ (m : Mount) (cnv seq : List ℕ) (k : FileKind) (i : ℕ) (x : Call) where
@@ -42,10 +42,10 @@ module _ (m : Mount) (cnv seq : List ℕ) (k : FileKind) (i : ℕ) (x : Call) wh
       rw (reached-file (m .volume) cnv seq k i r (w .reached)) (after-passes (check-passes _ (ap isBusy (w .idle)) refl))
 
 -- WHAT THE MOUNT FIXES stays, whatever the answer is.
-settled-fixes : (m : Mount) (k : FileKind) (i : ℕ) (a : Answer) → settled m k i a .mount .volume ≡ m .volume
+settled-fixes : (m : Mount) (k : FileKind) (i : ℕ) (a : Answer) → settled m k i a .outcome .mount .volume ≡ m .volume
 settled-fixes m k i (Refused x) = refl
 settled-fixes m k i (Done count) = refl
 settled-fixes m k i (Issue c) = refl
 
-pub outcome-fixes : (m : Mount) (cnv seq : List ℕ) (k : FileKind) (i : ℕ) (x : Call) → outcomeOf m cnv seq k i x .mount .volume ≡ m .volume
-outcome-fixes m cnv seq k i x = settled-fixes m k i (answered m cnv seq k i x)
+pub effect-fixes : (m : Mount) (cnv seq : List ℕ) (k : FileKind) (i : ℕ) (x : Call) → effectOf m cnv seq k i x .outcome .mount .volume ≡ m .volume
+effect-fixes m cnv seq k i x = settled-fixes m k i (answered m cnv seq k i x)

@@ -1,4 +1,4 @@
--- A call on a mount: the checks in the paper's order, what the call answers, and the mount that it leaves.
+-- A call on a mount: the checks in the paper's order, what the call answers, the mount that it leaves, and what it stores.
 use Prim.Native.Nat.{ℕ}
 use mathlib.Core.List.{List}
 use mathlib.Core.Bool.{cond}
@@ -6,14 +6,14 @@ use lib.ListN.{length}
 use Rattle.types.specs.declared.Mount.{Mount}
 use Rattle.types.specs.declared.Row.{Row}
 use Rattle.types.specs.declared.FileKind.{FileKind}
-use Rattle.types.specs.declared.Refusal.{Refusal}
 use Rattle.types.specs.declared.Refusal.the-variants as refusal
 use Rattle.types.specs.declared.Verdict.the-variants.{Passed}
 use Rattle.types.specs.declared.Answer.{Answer}
 use Rattle.types.specs.declared.Answer.the-variants.{Refused, Done, Issue}
-use Rattle.types.specs.declared.Outcome.{Outcome}
+use Rattle.types.specs.declared.Effect.{Effect}
 use Rattle.types.specs.declared.Call.{Call}
 use Rattle.types.specs.Codes.{isKind, kindFrom}
+use Rattle.types.specs.Effects.{answering, refusing}
 use Rattle.types.specs.Mounts.{holding}
 use Rattle.types.specs.Predicates.{isBusy}
 use Rattle.types.specs.Verdicts.{refuse, answerAfter}
@@ -38,24 +38,19 @@ onFile m k (checked.Refused y) x = Refused y
 abbrev pub answered : Mount → List ℕ → List ℕ → FileKind → ℕ → Call → Answer
 answered m cnv seq k i x = onFile m k (fileOf (m .volume) cnv seq k i) x
 
--- ---- the mount after it
+-- ---- what it does
 
--- an issued command is outstanding, and nothing else changes
-abbrev pub settled : Mount → FileKind → ℕ → Answer → Outcome
-settled m k i (Issue c) = record { answer = Issue c; mount = holding m (record { kind = k; number = i; command = c }) }
-settled m k i (Done count) = record { answer = Done count; mount = m }
-settled m k i (Refused x) = record { answer = Refused x; mount = m }
+-- an issued command is outstanding, and nothing else changes: no call stores a row
+abbrev pub settled : Mount → FileKind → ℕ → Answer → Effect
+settled m k i (Issue c) = answering (Issue c) (holding m (record { kind = k; number = i; command = c }))
+settled m k i (Done count) = answering (Done count) m
+settled m k i (Refused x) = refusing m x
 
--- THE CALLS: what a call on file i of a kind answers, and the mount that it leaves
-abbrev pub outcomeOf : Mount → List ℕ → List ℕ → FileKind → ℕ → Call → Outcome
-outcomeOf m cnv seq k i x = settled m k i (answered m cnv seq k i x)
+-- THE CALLS: what a call on file i of a kind answers, the mount that it leaves, and what it stores
+abbrev pub effectOf : Mount → List ℕ → List ℕ → FileKind → ℕ → Call → Effect
+effectOf m cnv seq k i x = settled m k i (answered m cnv seq k i x)
 
--- ---- a kind that is given as a number: "kind byte 0 cnv or 1 seq", "a kind above 1 answers 1"
-
--- "All but 7 change nothing."
-abbrev pub refusedWith : Mount → Refusal → Outcome
-refusedWith m x = record { answer = Refused x; mount = m }
-
-unfoldable pub outcomeBy : Mount → List ℕ → List ℕ → ℕ → ℕ → Call → Outcome
-outcomeBy m cnv seq n i x =
-    cond (isKind n) (outcomeOf m cnv seq (kindFrom n) i x) (refusedWith m (noKind (m .volume) (length cnv) (length seq)))
+-- of a kind that is given as a number: "kind byte 0 cnv or 1 seq", "a kind above 1 answers 1"
+unfoldable pub effectBy : Mount → List ℕ → List ℕ → ℕ → ℕ → Call → Effect
+effectBy m cnv seq n i x =
+    cond (isKind n) (effectOf m cnv seq (kindFrom n) i x) (refusing m (noKind (m .volume) (length cnv) (length seq)))

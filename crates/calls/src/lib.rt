@@ -1,20 +1,20 @@
-// The calls on a mounted volume: read, write, truncate and flush. None of them changes a table.
+// The calls on a mounted volume: read, write, truncate and flush. None of them stores a row.
 ghost use mathlib.Core.Path.{_≡_};
 ghost use mathlib.Core.Bool.{true};
 ghost use Prim.Native.Nat.{_+_, _/_, _^_, _≤_};
 ghost use Rattle.types.specs.Blocks.{sectorBytes, goodBlock};
 ghost use Rattle.checks.specs.Checks.{soundSlot};
 ghost use Rattle.checks.specs.Facts.{Ends};
-ghost use Rattle.calls.specs.Calls.{onRow, onFile, settled, outcomeOf, refusedWith, outcomeBy};
+ghost use Rattle.calls.specs.Calls.{onRow, onFile, settled, effectOf, effectBy};
 use checks::Checked;
 use checks::Lookup;
 use table::Slot;
 use types::Answer;
 use types::Call;
+use types::Effect;
 use types::FileKind;
 use types::Held;
 use types::Mount;
-use types::Outcome;
 use types::Refusal;
 use types::Row;
 use types::Verdict;
@@ -44,14 +44,14 @@ fn on_file(m: Mount, kind: FileKind, file: Checked, x: Call) -> Answer
     }
 }
 
-// The mount after an answer: an issued command is outstanding.
-fn settle(m: Mount, kind: FileKind, number: u32, answer: Answer) -> Outcome
+// What an answer does: an issued command is outstanding. Nothing is stored.
+fn settle(m: Mount, kind: FileKind, number: u32, answer: Answer) -> Effect
     ensures { λ r. ⌜ r ≡ settled m kind number answer ⌝ }
 {
     match answer {
-        Answer::Issue(command) => Outcome {
+        Answer::Issue(command) => types::effects::answering(
             answer,
-            mount: types::mounts::with_held(
+            types::mounts::with_held(
                 m,
                 Held {
                     kind,
@@ -59,23 +59,14 @@ fn settle(m: Mount, kind: FileKind, number: u32, answer: Answer) -> Outcome
                     command,
                 },
             ),
-        },
-        Answer::Done(_) => Outcome { answer, mount: m },
-        Answer::Refused(_) => Outcome { answer, mount: m },
-    }
-}
-
-fn refused(m: Mount, x: Refusal) -> Outcome
-    ensures { λ r. ⌜ r ≡ refusedWith m x ⌝ }
-{
-    Outcome {
-        answer: Answer::Refused(x),
-        mount: m,
+        ),
+        Answer::Done(_) => types::effects::answering(answer, m),
+        Answer::Refused(_) => types::effects::answering(answer, m),
     }
 }
 
 // A call on a file that was found: checks 10 (row) and 2, and then as its row says.
-fn call_on(m: Mount, kind: FileKind, number: u32, slot: Slot, x: Call) -> Outcome
+fn call_on(m: Mount, kind: FileKind, number: u32, slot: Slot, x: Call) -> Effect
     requires { ⌜ goodBlock (m .volume .block) ≡ true ⌝ }
     ensures { λ r. ⌜ r ≡ settled m kind number (onFile m kind (soundSlot (m .volume .block) kind slot) x) ⌝ }
 {
@@ -85,27 +76,27 @@ fn call_on(m: Mount, kind: FileKind, number: u32, slot: Slot, x: Call) -> Outcom
 }
 
 // A call on a file: 10 (counts), 1, and then as of the file. One row is read, however many there are.
-pub fn call(m: Mount, cnv: &[u64], seq: &[u64], kind: FileKind, number: u32, x: Call) -> Outcome
-    ensures { λ r. ⌜ r ≡ outcomeOf m (now (cnv .entry)) (now (seq .entry)) kind number x ⌝ }
+pub fn call(m: Mount, cnv: &[u64], seq: &[u64], kind: FileKind, number: u32, x: Call) -> Effect
+    ensures { λ r. ⌜ r ≡ effectOf m (now (cnv .entry)) (now (seq .entry)) kind number x ⌝ }
 {
     let v = m.volume;
     if !checks::counts_fit(v, cnv.len(), seq.len()) {
-        return refused(m, Refusal::Impossible);
+        return types::effects::refusing(m, Refusal::Impossible);
     }
     let Lookup::Found(slot) = checks::lookup_of(v, cnv, seq, kind, number) else {
-        return refused(m, Refusal::NoFile);
+        return types::effects::refusing(m, Refusal::NoFile);
     };
     call_on(m, kind, number, slot, x)
 }
 
 // A call on a file whose kind is given as a number.
-pub fn call_by(m: Mount, cnv: &[u64], seq: &[u64], kind: u64, number: u32, x: Call) -> Outcome
-    ensures { λ r. ⌜ r ≡ outcomeBy m (now (cnv .entry)) (now (seq .entry)) kind number x ⌝ }
+pub fn call_by(m: Mount, cnv: &[u64], seq: &[u64], kind: u64, number: u32, x: Call) -> Effect
+    ensures { λ r. ⌜ r ≡ effectBy m (now (cnv .entry)) (now (seq .entry)) kind number x ⌝ }
 {
     if types::codes::is_kind(kind) {
         call(m, cnv, seq, types::codes::kind_from(kind), number, x)
     } else {
         let v = m.volume;
-        refused(m, checks::no_kind(v, cnv.len(), seq.len()))
+        types::effects::refusing(m, checks::no_kind(v, cnv.len(), seq.len()))
     }
 }

@@ -8,20 +8,21 @@ use mathlib.Core.List.{List}
 use Rattle.types.specs.declared.Mount.{Mount}
 use Rattle.types.specs.declared.Row.{Row}
 use Rattle.types.specs.declared.Held.{Held}
+use Rattle.types.specs.declared.Effect.{Effect}
+use Rattle.types.specs.Effects.{refusing}
 use Rattle.types.specs.declared.Refusal.the-variants as refusal
 use Rattle.types.specs.declared.Outstanding.the-variants.{Idle}
 use Rattle.types.specs.declared.ErrorPolicy.{ErrorPolicy}
 use Rattle.types.specs.declared.ErrorPolicy.the-variants.{RemountRo, ZoneRo, ZoneOffline, Repair}
+use Rattle.table.specs.Facts.{StoreFits}
 use Rattle.recovery.specs.Fits.{recordFits}
 use Rattle.recovery.specs.Recovery.{nothingLost}
 use Rattle.held.specs.declared.Pending.{Pending}
 use Rattle.held.specs.declared.Pending.the-variants.{On, Refused}
 use Rattle.held.specs.Held.{pendingOf}
 use Rattle.held.specs.Facts.{Ready, PendingTells}
-use Rattle.held.proofs.Laws.{pending-ready, pending-idle, ready-lent}
-use Rattle.completion.specs.declared.Effect.{Effect}
-use Rattle.completion.specs.Completions.{Completion, markedBy, succeeded, recovered, refusing, effectOn, effectPending, effectOf}
-use Rattle.completion.specs.Facts.{StoreFits}
+use Rattle.held.proofs.Laws.{pending-ready, pending-idle, pending-tells, ready-lent}
+use Rattle.completion.specs.Completions.{Completion, markedBy, succeeded, recovered, effectOn, effectPending, effectOf}
 
 either : (P : Effect → Type 0) (t : Bool) (d e : Effect) → P d → P e → P (cond t d e)
 either P true d e x y = x
@@ -39,16 +40,20 @@ module _ (m : Mount) (cnv seq : List ℕ) where
   effect-idle x e = rw (pending-idle m cnv seq e)
 
   -- a row that is stored is the held command's, which is lent
-  pub effect-fits : (p : Pending) (x : Completion) → PendingTells m cnv seq p → StoreFits cnv seq (effectPending m p x .store)
+  pending-fits : (p : Pending) (x : Completion) → PendingTells m cnv seq p → StoreFits cnv seq (effectPending m p x .store)
   unfolding succeeded recovered
-  effect-fits (Refused y) x w = tt
-  effect-fits (On h r) Completion.good w = ready-lent m cnv seq h r w
-  effect-fits (On h r) (Completion.failed z) w =
+  pending-fits (Refused y) x w = tt
+  pending-fits (On h r) Completion.good w = ready-lent m cnv seq h r w
+  pending-fits (On h r) (Completion.failed z) w =
       let P : Effect → Type 0 = λ d. StoreFits cnv seq (d .store) in
       either P (recordFits (m .volume .block) (h .kind) r z) _ _
       (either P (nothingLost (h .kind) (h .command .kind) z (r .size)) _ _ tt (ready-lent m cnv seq h r w))
       tt
-  effect-fits (On h r) Completion.malformed w = tt
+  pending-fits (On h r) Completion.malformed w = tt
+
+  pub effect-fits : (x : Completion) → StoreFits cnv seq (effectOf m cnv seq x .store)
+  unfolding effectOf
+  effect-fits x = pending-fits (pendingOf m cnv seq) x (pending-tells m cnv seq)
 
 -- WHAT THE MOUNT FIXES stays, whatever the disk tells.
 marked-fixes : (p : ErrorPolicy) (m : Mount) → markedBy p m .volume ≡ m .volume

@@ -7,15 +7,15 @@ use lib.Dec.{eqb}
 use Rattle.types.specs.declared.Mount.{Mount}
 use Rattle.types.specs.declared.Row.{Row}
 use Rattle.types.specs.declared.Held.{Held}
-use Rattle.types.specs.declared.FileKind.{FileKind}
-use Rattle.types.specs.declared.FileKind.the-variants.{Conventional, Sequential}
-use Rattle.types.specs.declared.Refusal.{Refusal}
 use Rattle.types.specs.declared.Refusal.the-variants as refusal
 use Rattle.types.specs.declared.Answer.the-variants.{Refused, Done}
 use Rattle.types.specs.declared.ErrorPolicy.{ErrorPolicy}
 use Rattle.types.specs.declared.ErrorPolicy.the-variants.{RemountRo, ZoneRo, ZoneOffline, Repair}
+use Rattle.types.specs.declared.Store.{Store}
+use Rattle.types.specs.declared.Store.the-variants as store
+use Rattle.types.specs.declared.Effect.{Effect}
+use Rattle.types.specs.Effects.{refusing}
 use Rattle.types.specs.Mounts.{cleared, readOnly}
-use Rattle.table.specs.Rows.{setRow}
 use Rattle.zones.specs.declared.Zone.{Zone}
 use Rattle.zones.specs.Zone.{zoneBytes, zoneAt}
 use Rattle.recovery.specs.Success.{rowAfter}
@@ -24,9 +24,6 @@ use Rattle.recovery.specs.Recovery.{nothingLost, recoveredRow}
 use Rattle.held.specs.declared.Pending.{Pending}
 use Rattle.held.specs.declared.Pending.the-variants as pending
 use Rattle.held.specs.Held.{pendingOf}
-use Rattle.completion.specs.declared.Store.{Store}
-use Rattle.completion.specs.declared.Store.the-variants as store
-use Rattle.completion.specs.declared.Effect.{Effect}
 
 -- ---- what the disk tells
 
@@ -43,16 +40,6 @@ completionOf given bytes = cond (eqb (length bytes) zoneBytes) (failed (zoneAt g
 -- that the command was done well, or its failure
 abbrev pub completionBy : Bool → Bool → List ℕ → Completion
 completionBy done given bytes = cond done good (completionOf given bytes)
-
--- ---- what is stored
-
--- the table of a kind after a store
-abbrev pub stored : FileKind → Store → List ℕ → List ℕ
-stored k store.Nothing t = t
-stored Conventional (store.Put Conventional i r) t = setRow t i r
-stored Conventional (store.Put Sequential i r) t = t
-stored Sequential (store.Put Conventional i r) t = t
-stored Sequential (store.Put Sequential i r) t = setRow t i r
 
 -- ---- "Success: a seq write adds its length to size, reset makes 0, finish capacity; answers the count (read, write) or 0."
 
@@ -87,10 +74,6 @@ recovered m h r z =
     (recovering m h (recoveredRow (m .volume .policy) (h .kind) z r))
 
 -- ---- "Checks: 8, 10, and on failure 9."
-
--- "All but 7 change nothing."
-abbrev pub refusing : Mount → Refusal → Effect
-refusing m x = record { outcome = record { answer = Refused x; mount = m }; store = store.Nothing }
 
 -- "Else 9, and the command stays outstanding."
 abbrev pub effectOn : Mount → Held → Row → Completion → Effect

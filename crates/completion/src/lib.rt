@@ -1,58 +1,19 @@
-// Completions: what the success or the failure of the held command does to the mount and to its file's row.
+// Completions: what the success or the failure of the held command answers, does to the mount, and stores of its file's row.
 ghost use mathlib.Core.Path.{_≡_};
-ghost use Rattle.types.specs.declared.FileKind.the-variants as files;
 ghost use Rattle.recovery.specs.Facts.{Fitting};
 ghost use Rattle.held.specs.Facts.{Safe, PendingSafe};
-ghost use Rattle.completion.specs.Completions.{Completion, completionOf, completionBy, stored, succeeded, failing, markedBy, recovering, recovered, refusing, effectOn, effectPending, effectOf};
-ghost use Rattle.completion.specs.Facts.{StoreFits};
+ghost use Rattle.completion.specs.Completions.{Completion, completionOf, completionBy, succeeded, failing, markedBy, recovering, recovered, effectOn, effectPending, effectOf};
 use held::Pending;
 use types::Answer;
+use types::Effect;
 use types::ErrorPolicy;
-use types::FileKind;
 use types::Held;
 use types::Mount;
 use types::Outcome;
 use types::Refusal;
 use types::Row;
+use types::Store;
 use zones::Zone;
-
-// What a completion stores: nothing, or the row of a file.
-pub enum Store {
-    Nothing,
-    Put(FileKind, u32, Row),
-}
-
-// What a completion does: its answer with the mount after it, and what it stores.
-pub struct Effect {
-    pub outcome: Outcome,
-    pub store: Store,
-}
-
-fn put_store(cnv: &mut [u64], seq: &mut [u64], store: Store)
-    requires { ⌜ StoreFits (now cnv) (now seq) store ⌝ }
-    ensures { λ _. ⌜ now (cnv .exit) ≡ stored files.Conventional store (now (cnv .entry)) ⌝ }
-    ensures { λ _. ⌜ now (seq .exit) ≡ stored files.Sequential store (now (seq .entry)) ⌝ }
-{
-    match store {
-        Store::Nothing => {}
-        Store::Put(kind, number, row) => match kind {
-            FileKind::Conventional => table::put_row(cnv, number as usize, row),
-            FileKind::Sequential => table::put_row(seq, number as usize, row),
-        },
-    }
-}
-
-fn refusing(m: Mount, x: Refusal) -> Effect
-    ensures { λ r. ⌜ r ≡ refusing m x ⌝ }
-{
-    Effect {
-        outcome: Outcome {
-            answer: Answer::Refused(x),
-            mount: m,
-        },
-        store: Store::Nothing,
-    }
-}
 
 fn succeeded(m: Mount, h: Held, row: Row) -> Effect
     requires { ⌜ Safe m h row ⌝ }
@@ -130,7 +91,7 @@ fn effect_of_record(m: Mount, h: Held, row: Row, z: Zone) -> Effect
     if recovery::fits::record_fits(volume.block, kind, row, z) {
         recovered(m, h, row, z)
     } else {
-        refusing(m, Refusal::BadRecord)
+        types::effects::refusing(m, Refusal::BadRecord)
     }
 }
 
@@ -142,7 +103,7 @@ fn effect_of_bytes(m: Mount, h: Held, row: Row, bytes: &[u8], given: bool) -> Ef
     if bytes.len() == zones::ZONE_BYTES {
         effect_of_record(m, h, row, zones::zone_at(bytes, 0, given))
     } else {
-        refusing(m, Refusal::BadRecord)
+        types::effects::refusing(m, Refusal::BadRecord)
     }
 }
 
@@ -158,28 +119,22 @@ fn effect_pending(m: Mount, p: Pending, done: bool, bytes: &[u8], given: bool) -
                 effect_of_bytes(m, h, row, bytes, given)
             }
         }
-        Pending::Refused(x) => refusing(m, x),
+        Pending::Refused(x) => types::effects::refusing(m, x),
     }
 }
 
 // The outstanding command was done well, or it failed: then the bytes are its zone's record, and `given` says that the record states a
-// capacity. One row is read, and at most one is written.
+// capacity. One row is read.
 pub fn end_command(
     m: Mount,
-    cnv: &mut [u64],
-    seq: &mut [u64],
+    cnv: &[u64],
+    seq: &[u64],
     done: bool,
     bytes: &[u8],
     given: bool,
-) -> Outcome
-    ensures { λ r. ⌜ r ≡ effectOf m (now (cnv .entry)) (now (seq .entry)) (completionBy done given (now (bytes .entry))) .outcome ⌝ }
-    ensures { λ _. ⌜ now (cnv .exit) ≡ stored files.Conventional (effectOf m (now (cnv .entry)) (now (seq .entry)) (completionBy done given (now (bytes .entry))) .store) (now (cnv .entry)) ⌝ }
-    ensures { λ _. ⌜ now (seq .exit) ≡ stored files.Sequential (effectOf m (now (cnv .entry)) (now (seq .entry)) (completionBy done given (now (bytes .entry))) .store) (now (seq .entry)) ⌝ }
+) -> Effect
+    ensures { λ r. ⌜ r ≡ effectOf m (now (cnv .entry)) (now (seq .entry)) (completionBy done given (now (bytes .entry))) ⌝ }
 {
-    let p = held::find_pending(m, &cnv[..], &seq[..]);
-    let effect = effect_pending(m, p, done, bytes, given);
-    let store = effect.store;
-    let outcome = effect.outcome;
-    put_store(cnv, seq, store);
-    outcome
+    let p = held::find_pending(m, cnv, seq);
+    effect_pending(m, p, done, bytes, given)
 }

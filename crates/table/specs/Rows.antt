@@ -6,6 +6,10 @@ use lib.ListN.{getD}
 use lib.Seq.{sets}
 use lib.Dec.{eqb}
 use Rattle.types.specs.declared.Row.{Row}
+use Rattle.types.specs.declared.FileKind.{FileKind}
+use Rattle.types.specs.declared.FileKind.the-variants.{Conventional, Sequential}
+use Rattle.types.specs.declared.Store.{Store}
+use Rattle.types.specs.declared.Store.the-variants as store
 use Rattle.types.specs.declared.Condition.{Condition}
 use Rattle.types.specs.declared.Condition.the-variants as condition
 use Rattle.types.specs.declared.Access.{Access}
@@ -64,6 +68,14 @@ rowAt t i = slotOf (wordAt t i 0) (wordAt t i 1) (wordAt t i 2) (wordAt t i 3) (
 -- the table with a row at i
 unfoldable pub setRow : List ℕ → ℕ → Row → List ℕ
 setRow t i r = sets t (i * rowWidth) (rowWords r)
+
+-- the table of a kind once this was stored: a row goes into the table of its file's kind
+abbrev pub stored : FileKind → Store → List ℕ → List ℕ
+stored k store.Nothing t = t
+stored Conventional (store.Put Conventional i r) t = setRow t i r
+stored Conventional (store.Put Sequential i r) t = t
+stored Sequential (store.Put Conventional i r) t = t
+stored Sequential (store.Put Sequential i r) t = setRow t i r
 
 -- a slot in numbers: 10, "mount value or tables impossible", or 0 with the row's five values
 abbrev pub slotNumber : Slot → ℕ

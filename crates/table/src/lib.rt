@@ -3,10 +3,14 @@
 ghost use mathlib.Core.Path.{_≡_};
 ghost use Prim.Native.Nat.{_<_};
 ghost use lib.ListN.{length};
-ghost use Rattle.table.specs.Rows.{rowsLent, conditionRead, accessRead, slotWith, slotOf, rowAt, setRow, healthyRow, offlineRow, withSize, recoveredTo};
+ghost use Rattle.types.specs.declared.FileKind.the-variants as files;
+ghost use Rattle.table.specs.Facts.{StoreFits};
+ghost use Rattle.table.specs.Rows.{rowsLent, conditionRead, accessRead, slotWith, slotOf, rowAt, setRow, stored, healthyRow, offlineRow, withSize, recoveredTo};
 use types::Access;
 use types::Condition;
+use types::FileKind;
 use types::Row;
+use types::Store;
 
 // The words of a row, and where they stand behind the first, its start.
 pub const ROW_WORDS: usize = 5;
@@ -132,6 +136,21 @@ pub fn put_row(t: &mut [u64], i: usize, row: Row)
     t[b + SIZE] = row.size;
     t[b + CONDITION] = condition;
     t[b + ACCESS] = access;
+}
+
+// Stores what a call or a completion says: nothing, or a row in the table of its kind.
+pub fn put_store(cnv: &mut [u64], seq: &mut [u64], store: Store)
+    requires { ⌜ StoreFits (now cnv) (now seq) store ⌝ }
+    ensures { λ _. ⌜ now (cnv .exit) ≡ stored files.Conventional store (now (cnv .entry)) ⌝ }
+    ensures { λ _. ⌜ now (seq .exit) ≡ stored files.Sequential store (now (seq .entry)) ⌝ }
+{
+    match store {
+        Store::Nothing => {}
+        Store::Put(kind, number, row) => match kind {
+            FileKind::Conventional => put_row(cnv, number as usize, row),
+            FileKind::Sequential => put_row(seq, number as usize, row),
+        },
+    }
 }
 
 // A file that is found healthy at mount.

@@ -1,6 +1,7 @@
 pub mod Blocks
 pub mod Codes
 pub mod Commands
+pub mod Effects
 pub mod Kinds
 pub mod Mounts
 pub mod Numbers

@@ -2,6 +2,7 @@
 pub mod answers; // what each answer is in numbers; a chain of checks
 pub mod codes; // the number of each kind, condition, access, policy and command, and back
 pub mod commands; // what a command moves, and whether it is a read
+pub mod effects; // what a call or a completion does where nothing is stored
 pub mod mounts; // the empty mount value, and what calls and completions change of one
 pub mod predicates; // tests of a kind, a condition, an access, and of what is outstanding
 pub mod units; // sectors, blocks, and the limits of disks and mounts
@@ -181,6 +182,18 @@ pub enum ShowAnswer {
 pub struct Outcome {
     pub answer: Answer,
     pub mount: Mount,
+}
+
+// What a call or a completion stores: nothing, or the row of a file.
+pub enum Store {
+    Nothing,
+    Put(FileKind, u32, Row),
+}
+
+// What a call or a completion does: its answer with the mount after it, and what it stores.
+pub struct Effect {
+    pub outcome: Outcome,
+    pub store: Store,
 }
 
 // What a mount gives beside the tables.

@@ -1,5 +1,5 @@
 use mathlib.Core.Path.{_∙_, sym}
-use Rattle.calls.specs.Calls.{outcomeBy}
+use Rattle.calls.specs.Calls.{effectBy}
 use borrow.Author.Needs.{needs}
 use Rattle.calls.proofs.call_by.Statement.{statement}
 use Rattle.calls.proofs.call_by.Tie as tie
@@ -16,16 +16,16 @@ call-requires c κs = search needs
 no-kind-requires : tie.Need-no-kind-requires
 no-kind-requires c κs = search needs
 
-refused-requires : tie.Need-refused-requires
-refused-requires c κs = search needs
+refusing-requires : tie.Need-refusing-requires
+refusing-requires c κs = search needs
 
 returns : tie.Need-returns
-unfolding outcomeBy
+unfolding effectBy
 returns c = simp (sym (c .before .before .before .is-kind .ensures) ∙ c .before .before .if1 .taken, c .call .ensures, c .before .kind-from .ensures)
 
 returns-2 : tie.Need-returns-2
-unfolding outcomeBy
-returns-2 c = simp (sym (c .before .before .before .before .is-kind .ensures) ∙ c .before .before .before .if1 .left, c .refused .ensures, c .before .no-kind .ensures)
+unfolding effectBy
+returns-2 c = simp (sym (c .before .before .before .before .is-kind .ensures) ∙ c .before .before .before .if1 .left, c .refusing .ensures, c .before .no-kind .ensures)
 
 pub call-by-spec : {M : Type 1} → statement M
 call-by-spec =
@@ -35,6 +35,6 @@ call-by-spec =
     kind-from-requires
     call-requires
     no-kind-requires
-    refused-requires
+    refusing-requires
     returns
     returns-2)

@@ -8,20 +8,29 @@ enum-known-answer c = search needs
 with-held-requires : tie.Need-with-held-requires
 with-held-requires c κs = search needs
 
+answering-requires : tie.Need-answering-requires
+answering-requires c κs = search needs
+
 enum-told : tie.Need-enum-told
 enum-told c = search needs
+
+answering-requires-2 : tie.Need-answering-requires-2
+answering-requires-2 c κs = search needs
 
 enum-told-2 : tie.Need-enum-told-2
 enum-told-2 c = search needs
 
+answering-requires-3 : tie.Need-answering-requires-3
+answering-requires-3 c κs = search needs
+
 returns : tie.Need-returns
-returns c = simp (c .before .before .answer .given .1, c .with-held .ensures)
+returns c = simp (c .before .before .before .answer .given .1, c .answering .ensures, c .before .with-held .ensures)
 
 returns-2 : tie.Need-returns-2
-returns-2 c = simp (c .enum-told .given .1)
+returns-2 c = simp (c .before .enum-told .given .1, c .answering2 .ensures)
 
 returns-3 : tie.Need-returns-3
-returns-3 c = simp (c .enum-told2 .given .1)
+returns-3 c = simp (c .before .enum-told2 .given .1, c .answering3 .ensures)
 
 pub settle-spec : {M : Type 1} → statement M
 settle-spec =
@@ -29,8 +38,11 @@ settle-spec =
     (tie.spec
     enum-known-answer
     with-held-requires
+    answering-requires
     enum-told
+    answering-requires-2
     enum-told-2
+    answering-requires-3
     returns
     returns-2
     returns-3)

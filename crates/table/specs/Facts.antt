@@ -3,9 +3,9 @@ use Prim.Native.Nat.{ℕ, _<_}
 use mathlib.Core.List.{List}
 use lib.ListN.{length}
 use Rattle.types.specs.Kinds.{ofKind}
 use Rattle.table.specs.Rows.{rowsLent}
-use Rattle.completion.specs.declared.Store.{Store}
-use Rattle.completion.specs.declared.Store.the-variants as store
+use Rattle.types.specs.declared.Store.{Store}
+use Rattle.types.specs.declared.Store.the-variants as store
 
 -- the row that is stored is one of its table's
 abbrev pub StoreFits : List ℕ → List ℕ → Store → Type 0

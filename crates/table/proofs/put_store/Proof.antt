@@ -1,6 +1,6 @@
 use borrow.Author.Needs.{needs}
-use Rattle.completion.proofs.put_store.Statement.{statement}
-use Rattle.completion.proofs.put_store.Tie as tie
+use Rattle.table.proofs.put_store.Statement.{statement}
+use Rattle.table.proofs.put_store.Tie as tie
 
 enum-told : tie.Need-enum-told
 enum-told c = search needs

@@ -1,0 +1,49 @@
+-- What a step is, from the effect that its call or completion has; and that no call stores a row.
+-- Assumes nothing.
+use Prim.Native.Nat.{ℕ}
+use mathlib.Core.Path.{_≡_, refl, ap, _∙_, sym}
+use mathlib.Core.Bool.{Bool, true, false, cond}
+use mathlib.Core.List.{List}
+use lib.ListN.{length}
+use Rattle.types.specs.declared.Mount.{Mount}
+use Rattle.types.specs.declared.FileKind.{FileKind}
+use Rattle.types.specs.declared.Call.{Call}
+use Rattle.types.specs.declared.Answer.{Answer}
+use Rattle.types.specs.declared.Answer.the-variants.{Refused, Done, Issue}
+use Rattle.types.specs.declared.Outcome.{Outcome}
+use Rattle.types.specs.declared.Effect.{Effect}
+use Rattle.types.specs.declared.Store.the-variants.{Nothing}
+use Rattle.types.specs.Codes.{isKind, kindFrom}
+use Rattle.types.specs.Effects.{refusing}
+use Rattle.checks.specs.Checks.{noKind}
+use Rattle.calls.specs.Calls as calls
+use Rattle.completion.specs.Completions.{Completion}
+use Rattle.completion.specs.Completions as completions
+use Rattle.engine.specs.Engine.{call, completion, stepBy, step}
+use Rattle.engine.specs.Facts.{stateOf, stepOf}
+
+-- NO CALL STORES A ROW, whatever it answers.
+settled-stores : (m : Mount) (k : FileKind) (i : ℕ) (a : Answer) → calls.settled m k i a .store ≡ Nothing
+settled-stores m k i (Issue c) = refl
+settled-stores m k i (Done count) = refl
+settled-stores m k i (Refused x) = refl
+
+module _ (m : Mount) (cnv seq : List ℕ) (kind n : ℕ) (x : Call) where
+  pub call-stores : calls.effectBy m cnv seq kind n x .store ≡ Nothing
+  unfolding calls.effectBy
+  call-stores = by (isKind kind)
+    where
+      by : (t : Bool) → cond t (calls.effectOf m cnv seq (kindFrom kind) n x) (refusing m (noKind (m .volume) (length cnv) (length seq))) .store ≡ Nothing
+      by true = settled-stores m (kindFrom kind) n (calls.answered m cnv seq (kindFrom kind) n x)
+      by false = refl
+
+  -- so a call leaves both tables
+  pub call-steps : step (stateOf m cnv seq) (call kind n x) ≡ stepOf (calls.effectBy m cnv seq kind n x .outcome) cnv seq
+  unfolding step
+  call-steps = rw call-stores
+
+-- A COMPLETION, whose effect a function found and applied
+pub completion-steps : {cnv′ seq′ : List ℕ} {e : Effect} {r : Outcome} (m : Mount) (cnv seq : List ℕ) (x : Completion) → e ≡ completions.effectOf m cnv seq x
+    → ((w : Mount) → stepBy (stateOf w cnv seq) e ≡ stepOf r cnv′ seq′) → step (stateOf m cnv seq) (completion x) ≡ stepOf r cnv′ seq′
+unfolding step
+completion-steps m cnv seq x found applied = ap (stepBy (stateOf m cnv seq)) (sym found) ∙ applied m

@@ -1,0 +1,45 @@
+// The engine's entry points: a call, a command that was done, and one that failed. Each is one step of the one transition function.
+ghost use mathlib.Core.Path.{_≡_};
+ghost use Rattle.types.specs.declared.Mount.{Mount};
+ghost use Rattle.table.specs.Facts.{StoreFits};
+ghost use Rattle.completion.specs.Completions.{Completion, completionOf};
+ghost use Rattle.engine.specs.Engine.{Input, stepBy, step};
+ghost use Rattle.engine.specs.Facts.{stateOf, stepOf};
+use types::Call;
+use types::Effect;
+use types::Mount;
+use types::Outcome;
+
+// Applies an effect to the tables. At most one row is written.
+fn apply(cnv: &mut [u64], seq: &mut [u64], effect: Effect) -> Outcome
+    requires { ⌜ StoreFits (now cnv) (now seq) (effect .store) ⌝ }
+    ensures { λ r. ⌜ ((m : Mount) → stepBy (stateOf m (now (cnv .entry)) (now (seq .entry))) effect ≡ stepOf r (now (cnv .exit)) (now (seq .exit))) ⌝ }
+{
+    let store = effect.store;
+    table::put_store(cnv, seq, store);
+    effect.outcome
+}
+
+// A call on a file whose kind is given as a number. No call stores a row, so the tables are lent to be read.
+pub fn call(m: Mount, cnv: &[u64], seq: &[u64], kind: u64, number: u32, x: Call) -> Outcome
+    ensures { λ r. ⌜ step (stateOf m (now (cnv .entry)) (now (seq .entry))) (Input.call kind number x) ≡ stepOf r (now (cnv .entry)) (now (seq .entry)) ⌝ }
+{
+    let effect = calls::call_by(m, cnv, seq, kind, number, x);
+    effect.outcome
+}
+
+// The outstanding command was done well.
+pub fn complete(m: Mount, cnv: &mut [u64], seq: &mut [u64]) -> Outcome
+    ensures { λ r. ⌜ step (stateOf m (now (cnv .entry)) (now (seq .entry))) (Input.completion Completion.good) ≡ stepOf r (now (cnv .exit)) (now (seq .exit)) ⌝ }
+{
+    let effect = completion::end_command(m, &cnv[..], &seq[..], true, b"", false);
+    apply(cnv, seq, effect)
+}
+
+// The outstanding command failed. The bytes are its zone's record, and `given` says that the record states a capacity.
+pub fn fail(m: Mount, cnv: &mut [u64], seq: &mut [u64], bytes: &[u8], given: bool) -> Outcome
+    ensures { λ r. ⌜ step (stateOf m (now (cnv .entry)) (now (seq .entry))) (Input.completion (completionOf given (now (bytes .entry)))) ≡ stepOf r (now (cnv .exit)) (now (seq .exit)) ⌝ }
+{
+    let effect = completion::end_command(m, &cnv[..], &seq[..], false, bytes, given);
+    apply(cnv, seq, effect)
+}
