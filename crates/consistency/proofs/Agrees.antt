@@ -15,10 +15,10 @@ use Rattle.recovery.specs.declared.grid.SizeRule.{SizeRule}
 use Rattle.recovery.specs.declared.grid.Rule.{Rule}
 use Rattle.recovery.specs.Grid.{recoveryGrid, ruleOf}
 use Rattle.recovery.specs.Recovery.{ruledAccess}
-use Rattle.consistency.specs.Disk.{DiskZone}
+use Rattle.disk.specs.Disk.{DiskZone}
 use Rattle.consistency.specs.FileHistory.{FileHistory}
-use Rattle.consistency.proofs.Conditions.{notBetter}
-use Rattle.consistency.proofs.SoundZone.{SoundZone}
+use Rattle.disk.proofs.Conditions.{notBetter}
+use Rattle.disk.proofs.SoundZone.{SoundZone}
 use Rattle.consistency.proofs.Shown.{writtenTo}
 
 abbrev pub gridRule : ErrorPolicy → Condition → Rule

@@ -1,4 +1,4 @@
--- Demand 3 holds; and no truthful completion is answered 8, 9 or 10.
+-- Demand 3 holds, and what stands beside it.
 -- Assumes nothing.
 use mathlib.Core.Bool.{Bool, true, false, cond}
 use mathlib.Core.List.{List}
@@ -22,25 +22,26 @@ use Rattle.zones.specs.declared.Zone.{Zone}
 use Rattle.report.specs.Report.{zoneCount, zonesOf}
 use Rattle.files.specs.Files.{cnvRows, seqRows}
 use Rattle.mount.specs.Fill.{fill}
-use Rattle.mount.specs.Mount.{fileZones, policyOf, aggregated}
+use Rattle.mount.specs.Mount.{fileZones, policyOf, aggregated, mountOutcome}
 use Rattle.report.proofs.Laws.{framed, zones-length, AllGood, report-told, report-good}
-use Rattle.completion.specs.Completions.{effectOf}
-use Rattle.consistency.specs.Disk.{DiskZone}
-use Rattle.consistency.specs.Shows.{Shows, ShowsZones}
-use Rattle.consistency.specs.Shows as shows
-use Rattle.consistency.specs.System.{System, Event, mounted, zoneOf, historyOf, performIn, truthful}
+use Rattle.engine.specs.Engine as engine
+use Rattle.disk.specs.Disk.{DiskZone}
+use Rattle.disk.specs.Facts.{Shows, ShowsZones}
+use Rattle.disk.specs.Facts as shows
+use Rattle.disk.proofs.Shows.{shows-told, report-shows}
+use Rattle.consistency.specs.System.{System, Event, run, allTruthful, mounted, zoneOf, historyOf, performIn}
 use Rattle.consistency.specs.Claim.{AsPromised}
-use Rattle.consistency.specs.Demand.{Compares, Start, after, Consistent, Demand3, AlwaysReported, AlwaysCompleted}
+use Rattle.consistency.specs.Demand.{Compares, Start, History, after, Fresh, freshMount, Consistent, Demand3, AlwaysReported, Digested, AlwaysDigested}
 use Rattle.consistency.proofs.Shown.{shownRow}
 use Rattle.consistency.proofs.Promised.{promised}
 use Rattle.consistency.proofs.Bridge.{noRow, fill-listed}
 use Rattle.consistency.proofs.Files.{kinds}
 use Rattle.consistency.proofs.Effects.{holdOf}
-use Rattle.consistency.proofs.Steps.{Invariant, invariant-run, new, seq-completed, cnv-completed, replied}
+use Rattle.consistency.proofs.Steps.{Invariant, invariant-run, new, Told, truthful-told, seq-completed, cnv-completed, replied}
 use Rattle.consistency.proofs.Mounts.{cnvs, seqs, Accepts, accepts, leaves, mount-leaves}
 use Rattle.consistency.proofs.Start.{files-start, covers-start, covers-nth}
 use Rattle.consistency.proofs.Fresh.{all-good, seq-count, file-shown, cnv-count}
-use Rattle.consistency.proofs.Report.{report-shows, report-bytes}
+use Rattle.consistency.proofs.Report.{disk-shown, report-bytes}
 
 module _ (block : ℕ) (superblock options report cnv seq : List ℕ) where
   -- the system that it leaves
@@ -62,99 +63,107 @@ module _ (block : ℕ) (superblock options report cnv seq : List ℕ) where
         held = tt;
       }
 
-  pub invariant-after : (disk : List DiskZone) → Start block superblock options report cnv seq disk → (events : List Event) → Invariant (leaves block superblock options report cnv seq .mount .volume) (kinds disk) (after block superblock options report cnv seq disk events)
-  invariant-after disk s events =
+  -- after any list of truthful events
+  invariant-from : (disk : List DiskZone) → Start block superblock options report cnv seq disk → (events : List Event) → let first = mounted (mountOutcome block superblock options report cnv seq) disk in
+      allTruthful first events ≡ true → Invariant (leaves block superblock options report cnv seq .mount .volume) (kinds disk) (run first events)
+  invariant-from disk s events =
       let t = accepts block superblock options report cnv seq (s .answer) in
-      rw (mount-leaves block superblock options report cnv seq t) (invariant-run (invariant-mounted t disk (s .shows .zones)) events)
+      let shown = shows-told report disk (s .shown) in
+      rw (mount-leaves block superblock options report cnv seq t) (invariant-run (invariant-mounted t disk (shown .zones)) events)
 
-module _ (block : ℕ) (superblock options report cnv seq : List ℕ) (disk : List DiskZone) (start : Start block superblock options report cnv seq disk) (events : List Event) where
+module _ (h : History) where
   abbrev w : System
-  w = after block superblock options report cnv seq disk events
+  w = after h
 
-  invariant : Invariant (leaves block superblock options report cnv seq .mount .volume) (kinds disk) w
-  invariant = invariant-after block superblock options report cnv seq disk start events
+  abbrev fixed : Volume
+  fixed = leaves (h .block) (h .superblock) (h .options) (h .report) (h .cnv) (h .seq) .mount .volume
 
-  first : Accepts block superblock options report cnv seq
-  first = accepts block superblock options report cnv seq (start .answer)
+  shown : Shows (h .report) (h .disk)
+  shown = shows-told (h .report) (h .disk) (h .start .shown)
 
-  same-block : w .mount .volume .block ≡ block
+  invariant : Invariant fixed (kinds (h .disk)) w
+  invariant = invariant-from (h .block) (h .superblock) (h .options) (h .report) (h .cnv) (h .seq) (h .disk) (h .start) (h .events) (h .honest)
+
+  first : Accepts (h .block) (h .superblock) (h .options) (h .report) (h .cnv) (h .seq)
+  first = accepts (h .block) (h .superblock) (h .options) (h .report) (h .cnv) (h .seq) (h .start .answer)
+
+  same-block : w .state .mount .volume .block ≡ h .block
   same-block = ap (λ (v : Volume). v .block) (invariant .same)
 
-  same-policy : w .mount .volume .policy ≡ policyOf (optionsOf options)
+  same-policy : w .state .mount .volume .policy ≡ policyOf (optionsOf (h .options))
   same-policy = ap (λ (v : Volume). v .policy) (invariant .same)
 
-  same-files : w .mount .volume .sequential ≡ length (seqRows (fileZones report))
+  same-files : w .state .mount .volume .sequential ≡ length (seqRows (fileZones (h .report)))
   same-files = ap (λ (v : Volume). v .sequential) (invariant .same)
 
   -- A FRESH MOUNT
-  module _ (report′ cnv′ seq′ : List ℕ) (shows : Shows report′ (w .disk)) (sc : length cnv′ ≡ length cnv) (ss : length seq′ ≡ length seq) where
-    seqs-again : length (seqRows (fileZones report′)) ≡ w .mount .volume .sequential
-    unfolding fileZones
-    seqs-again = seq-count (invariant .files) (shows .zones)
+  module _ (f : Fresh h) where
+    seen : Shows (f .report) (w .disk)
+    seen = shows-told (f .report) (w .disk) (f .shown)
 
-    cnvs-again : length (cnvRows (aggregated superblock) (fileZones report′)) ≡ length (cnvRows (aggregated superblock) (fileZones report))
+    seqs-again : length (seqRows (fileZones (f .report))) ≡ w .state .mount .volume .sequential
     unfolding fileZones
-    cnvs-again = cnv-count (aggregated superblock) (shows .zones) (start .shows .zones) (invariant .zones)
+    seqs-again = seq-count (invariant .files) (seen .zones)
 
-    again : Accepts block superblock options report′ cnv′ seq′
+    cnvs-again : length (cnvRows (aggregated (h .superblock)) (fileZones (f .report))) ≡ length (cnvRows (aggregated (h .superblock)) (fileZones (h .report)))
+    unfolding fileZones
+    cnvs-again = cnv-count (aggregated (h .superblock)) (seen .zones) (shown .zones) (invariant .zones)
+
+    again : Accepts (h .block) (h .superblock) (h .options) (f .report) (f .cnv) (f .seq)
     again = record {
       unit = first .unit;
       super = first .super;
       options = first .options;
-      report = report-good (blockSectors block) report′
-          (record { header = shows .header; zones = subst (λ n. AllGood (blockSectors n) 0 (zonesOf report′)) same-block (all-good (invariant .files) (shows .zones)) });
+      report = report-good (blockSectors (h .block)) (f .report)
+          (record { header = seen .header; zones = subst (λ n. AllGood (blockSectors n) 0 (zonesOf (f .report))) same-block (all-good (invariant .files) (seen .zones)) });
       cnvs = refl;
       seqs = refl;
-      cnvFit = rw (cnvs-again, sc) (first .cnvFit);
-      seqFit = rw (seqs-again, same-files, ss) (first .seqFit);
+      cnvFit = rw (cnvs-again, f .cnvLong) (first .cnvFit);
+      seqFit = rw (seqs-again, same-files, f .seqLong) (first .seqFit);
     }
 
-    fresh-row : (n : ℕ) → n < w .mount .volume .sequential → rowAt (fill seq′ (seqRows (fileZones report′))) n ≡ Good (shownRow (zoneOf w n))
+    fresh-row : (n : ℕ) → n < w .state .mount .volume .sequential → rowAt (fill (f .seq) (seqRows (fileZones (f .report)))) n ≡ Good (shownRow (zoneOf w n))
     unfolding fileZones
-    fresh-row n h =
-        let inside : n < length (seqRows (drop 1 (zonesOf report′))) = omega (arith, h, seq-count (invariant .files) (shows .zones)) in
-        fill-listed seq′ (seqRows (drop 1 (zonesOf report′))) (again .seqFit) .row n inside ∙ ap Good (file-shown (invariant .files) (shows .zones) n h .row)
+    fresh-row n l =
+        let inside : n < length (seqRows (drop 1 (zonesOf (f .report)))) = omega (arith, l, seq-count (invariant .files) (seen .zones)) in
+        fill-listed (f .seq) (seqRows (drop 1 (zonesOf (f .report)))) (again .seqFit) .row n inside ∙ ap Good (file-shown (invariant .files) (seen .zones) n l .row)
 
-    compares : (n : ℕ) → n < w .mount .volume .sequential → historyOf w n .quiet ≡ true
-        → Compares (policyOf (optionsOf options)) (historyOf w n) (zoneOf w n) (fill seq′ (seqRows (fileZones report′))) (w .seq) n
-    compares n h q = record {
+    compares : (n : ℕ) → n < w .state .mount .volume .sequential → historyOf w n .quiet ≡ true
+        → Compares (policyOf (optionsOf (h .options))) (historyOf w n) (zoneOf w n) (fill (f .seq) (seqRows (fileZones (f .report)))) (w .state .seq) n
+    compares n l q = record {
       row = getD (invariant .rows) n noRow;
       other = shownRow (zoneOf w n);
-      here = invariant .listed .row n h;
-      there = fresh-row n h;
-      promised = subst (λ p. AsPromised p (historyOf w n) (zoneOf w n) (shownRow (zoneOf w n)) (getD (invariant .rows) n noRow)) same-policy (promised (file-shown (invariant .files) (shows .zones) n h .agrees) q);
+      here = invariant .listed .row n l;
+      there = fresh-row n l;
+      promised = subst (λ p. AsPromised p (historyOf w n) (zoneOf w n) (shownRow (zoneOf w n)) (getD (invariant .rows) n noRow)) same-policy (promised (file-shown (invariant .files) (seen .zones) n l .agrees) q);
     }
 
-    consistent : Consistent block superblock options report′ cnv′ seq′ w
+    consistent : Consistent (policyOf (optionsOf (h .options))) w (freshMount h f)
     consistent =
-        let g = mount-leaves block superblock options report′ cnv′ seq′ again in
+        let g = mount-leaves (h .block) (h .superblock) (h .options) (f .report) (f .cnv) (f .seq) again in
         record { answer = rw g; files = rw g seqs-again; rows = rw g compares }
 
 -- THE CLAIM
 pub demand3 : Demand3
 unfolding Demand3
-demand3 block superblock options report cnv seq disk start events idle report′ cnv′ seq′ shows sc ss =
-    consistent block superblock options report cnv seq disk start events report′ cnv′ seq′ shows sc ss
+demand3 h idle f = consistent h f
 
--- A COMPLETION is answered 0 or 7.
+-- A COMPLETION is answered 0 or 7, and then nothing is held.
 reply-number : (t : Bool) (c : Command) (r : Row) → answerNumber (replied t c r) ≡ cond t 0 7
 reply-number true c r = refl
 reply-number false c r = refl
 
-pub always-completed : AlwaysCompleted
-unfolding AlwaysCompleted
-always-completed block superblock options report cnv seq disk start events h e o = by (h .kind) (h .number) (h .command) e
+pub always-digested : AlwaysDigested
+unfolding AlwaysDigested engine.step
+always-digested h c e o given bytes t = by (c .kind) (c .number) (c .command) e (truthful-told (after h) c e o given bytes t)
   where
-    w : System
-    w = after block superblock options report cnv seq disk events
-
-    r : Invariant (leaves block superblock options report cnv seq .mount .volume) (kinds disk) w
-    r = invariant-after block superblock options report cnv seq disk start events
-
-    by : (k : FileKind) (n : ℕ) (c : Command) → w .mount .outstanding ≡ Busy (holdOf k n c) → let done = performIn w c o in
-        answerNumber (effectOf (w .mount) (w .cnv) (w .seq) (truthful done) .outcome .answer) ≡ cond (done .succeeded) 0 7
-    by Sequential n c e = ap answerNumber (seq-completed r n c o e .answer) ∙ reply-number (performIn w c o .succeeded) c (new r Sequential n c e o)
-    by Conventional n c e = ap answerNumber (cnv-completed r n c o e .answer) ∙ reply-number (performIn w c o .succeeded) c (new r Conventional n c e o)
+    by : (k : FileKind) (n : ℕ) (d : Command) → after h .state .mount .outstanding ≡ Busy (holdOf k n d) → Told (after h) d o given bytes → Digested (after h) (holdOf k n d) o given bytes
+    by Sequential n d e told =
+        let g = seq-completed (invariant h) n d o given bytes told e in
+        record { number = ap answerNumber (g .answer) ∙ reply-number (performIn (after h) d o .succeeded) d (new (invariant h) Sequential n d e o given bytes); idle = g .idle }
+    by Conventional n d e told =
+        let g = cnv-completed (invariant h) n d o given bytes told e in
+        record { number = ap answerNumber (g .answer) ∙ reply-number (performIn (after h) d o .succeeded) d (new (invariant h) Conventional n d e o given bytes); idle = g .idle }
 
 -- A REPORT that shows the disk
 shown-length : {rs : List Zone} {zs : List DiskZone} → ShowsZones rs zs → length rs ≡ length zs
@@ -166,12 +175,11 @@ kinds-length zs ys e = sym (length-map zs (λ (z : DiskZone). z .kind)) ∙ ap l
 
 pub always-reported : AlwaysReported
 unfolding AlwaysReported
-always-reported block superblock options report cnv seq disk start events =
-    let w = after block superblock options report cnv seq disk events in
-    let r = invariant-after block superblock options report cnv seq disk start events in
-    let same : length (w .disk) ≡ zoneCount report = kinds-length (w .disk) disk (r .zones) ∙ sym (shown-length (start .shows .zones)) ∙ zones-length report in
-    let frame = framed report (start .shows .header) in
+always-reported h =
+    let r = invariant h in
+    let same : length (after h .disk) ≡ zoneCount (h .report) = kinds-length (after h .disk) (h .disk) (r .zones) ∙ sym (shown-length (shown h .zones)) ∙ zones-length (h .report) in
+    let frame = framed (h .report) (shown h .header) in
     record {
-      bytes = report-bytes (w .disk);
-      shows = report-shows (r .files) (omega (arith, same, frame .some)) (omega (arith, same, frame .few));
+      bytes = report-bytes (after h .disk);
+      shown = report-shows (disk-shown (r .files) (omega (arith, same, frame .some)) (omega (arith, same, frame .few)));
     }

@@ -17,11 +17,12 @@ use Rattle.types.proofs.Tests.{and-left}
 use Rattle.types.proofs.Blocks.{IsBlock}
 use Rattle.zones.specs.declared.Zone.{Zone}
 use Rattle.recovery.specs.Success.{rowAfter}
-use Rattle.consistency.specs.Disk.{DiskZone, moved, struck, Choice, perform, performedBy, allows, allowsBy, landedBy, reported}
+use Rattle.disk.specs.Disk.{DiskZone, moved, struck, Choice, perform, performedBy, allows, allowsBy, landedBy}
+use Rattle.disk.specs.Facts.{ShowsZone}
 use Rattle.consistency.specs.FileHistory.{FileHistory, afterFailure, afterCommand}
-use Rattle.consistency.proofs.Whole.{At, at-write, whole-min}
-use Rattle.consistency.proofs.Conditions.{not-better}
-use Rattle.consistency.proofs.SoundZone.{SoundZone, sound-struck}
+use Rattle.disk.proofs.Whole.{At, at-write, whole-min}
+use Rattle.disk.proofs.Conditions.{not-better}
+use Rattle.disk.proofs.SoundZone.{SoundZone, sound-struck}
 use Rattle.consistency.proofs.Agrees.{Agrees, Live, RowState, live, dead}
 use Rattle.consistency.proofs.Issued.{Issued, Placed}
 use Rattle.consistency.proofs.Successes.{advanced-seq, at-place, keeps-success}
@@ -62,19 +63,21 @@ module _ {b : ℕ} {p : ErrorPolicy} {z : DiskZone} {s : FileHistory} {r : Row} 
   unfolding allows
   failed-sound o = sound-struck block z (a .sound) _ (o .mishap) (λ q. landed-by (movementOf (c .kind)) (isRead (c .kind)) (allows (s .quiet) z c) (i .placed refl) refl (o .lands))
 
-  keeps-failure : (o : Choice) → Agrees b p (failedZone o) (afterFailure s c (failedZone o)) (failedRow Sequential p c (reported (failedZone o)) r)
+  keeps-failure : (o : Choice) {q : Zone} → ShowsZone q (failedZone o) → Agrees b p (failedZone o) (afterFailure s c (failedZone o)) (failedRow Sequential p c q r)
   unfolding struck moved
-  keeps-failure o =
+  keeps-failure o w =
       let l = live-of a i in
-      keeps-failed block a l (i .readable) (failedZone o) (failed-sound o) (a .kind) refl refl (not-better (r .condition) (z .condition) (o .mishap .harm) (l .worse)) c
+      keeps-failed block a l (i .readable) (failedZone o) (failed-sound o) (a .kind) refl refl (not-better (r .condition) (z .condition) (o .mishap .harm) (l .worse)) w c
 
-  keeps-performed : (o : Choice) (t : Bool) → allows (s .quiet) z c && not (o .fails) ≡ t
-      → let done = performedBy t b (s .quiet) z c o in Agrees b p (done .zone) (afterCommand (done .succeeded) s c (done .zone)) (completedRow Sequential (done .succeeded) p c (reported (done .zone)) r)
-  keeps-performed o true g = keeps-success block a (live-of a i) c i (and-left _ _ g)
-  keeps-performed o false g = keeps-failure o
+  keeps-performed : (o : Choice) (q : Zone) (t : Bool) → allows (s .quiet) z c && not (o .fails) ≡ t
+      → let done = performedBy t b (s .quiet) z c o in
+      (done .succeeded ≡ false → ShowsZone q (done .zone)) → Agrees b p (done .zone) (afterCommand (done .succeeded) s c (done .zone)) (completedRow Sequential (done .succeeded) p c q r)
+  keeps-performed o q true g w = keeps-success block a (live-of a i) c i (and-left _ _ g)
+  keeps-performed o q false g w = keeps-failure o (w refl)
 
-  -- THE CORE
-  pub keeps-command : (o : Choice)
-      → let done = perform b (s .quiet) z c o in Agrees b p (done .zone) (afterCommand (done .succeeded) s c (done .zone)) (completedRow Sequential (done .succeeded) p c (reported (done .zone)) r)
+  -- THE CORE: with any record of a failure that shows the zone
+  pub keeps-command : (o : Choice) (q : Zone)
+      → let done = perform b (s .quiet) z c o in
+      (done .succeeded ≡ false → ShowsZone q (done .zone)) → Agrees b p (done .zone) (afterCommand (done .succeeded) s c (done .zone)) (completedRow Sequential (done .succeeded) p c q r)
   unfolding perform
-  keeps-command o = keeps-performed o (allows (s .quiet) z c && not (o .fails)) refl
+  keeps-command o q w = keeps-performed o q (allows (s .quiet) z c && not (o .fails)) refl w

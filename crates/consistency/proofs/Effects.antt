@@ -19,16 +19,16 @@ use Rattle.types.specs.declared.ErrorPolicy.the-variants.{RemountRo, ZoneRo, Zo
 use Rattle.types.specs.declared.Outstanding.the-variants.{Idle}
 use Rattle.types.specs.Kinds.{ofKind}
 use Rattle.types.specs.Mounts.{cleared}
-use Rattle.table.specs.Rows.{rowsLent, setRow}
+use Rattle.table.specs.Rows.{rowsLent, setRow, stored}
 use Rattle.zones.specs.declared.Zone.{Zone}
 use Rattle.recovery.specs.Success.{rowAfter}
 use Rattle.recovery.specs.Fits.{recordFits}
 use Rattle.recovery.specs.Recovery.{nothingLost, recoveredRow}
 use Rattle.held.specs.Facts.{Ready}
 use Rattle.held.proofs.Laws.{ready-lent}
-use Rattle.completion.specs.declared.Effect.{Effect}
-use Rattle.completion.specs.declared.Store.the-variants as store
-use Rattle.completion.specs.Completions.{good, failed, stored, succeeded, markedBy, failing, recovering, recovered, effectOf}
+use Rattle.types.specs.declared.Effect.{Effect}
+use Rattle.types.specs.declared.Store.the-variants as store
+use Rattle.completion.specs.Completions.{good, failed, succeeded, markedBy, failing, recovering, recovered, effectOf}
 use Rattle.completion.proofs.Laws.{effect-ready}
 use Rattle.consistency.proofs.Bridge.{Became, set-became, still-became}
 use Rattle.consistency.proofs.Failures.{failedRow}

@@ -1,4 +1,4 @@
--- A failure, with the record of the zone as it is then, keeps the invariant of its file.
+-- A failure, with any record that shows the zone as it is then, keeps the invariant of its file.
 -- Assumes nothing.
 use mathlib.Core.Bool.{Bool, true, false, not, cond, or-true, or-false, _&&_, _||_}
 use mathlib.Core.Path.{_≡_, refl, sym, ap, _∙_}
@@ -26,19 +26,20 @@ use Rattle.zones.specs.Zone.{conditionOf, writtenSize}
 use Rattle.recovery.specs.declared.grid.SizeRule.{SizeRule}
 use Rattle.recovery.specs.declared.grid.AccessRule.{AccessRule}
 use Rattle.recovery.specs.Recovery.{nothingLost, ruledSize, ruledAccess, recoveryRule, recoveredRow}
-use Rattle.consistency.specs.Disk.{DiskZone, reported}
+use Rattle.disk.specs.Disk.{DiskZone}
+use Rattle.disk.specs.Facts.{ShowsZone}
 use Rattle.consistency.specs.FileHistory.{FileHistory, harmless, lastSizeAt, updated, afterFailure}
-use Rattle.consistency.proofs.Whole.{whole-size}
-use Rattle.consistency.proofs.Conditions.{notBetter, healthy-is, healthy-known, not-better-self}
-use Rattle.consistency.proofs.SoundZone.{SoundZone, says-condition, says-healthy, reported-shows}
-use Rattle.consistency.proofs.Shown.{writtenTo, written-reported, fresh-size}
+use Rattle.disk.proofs.Whole.{whole-size}
+use Rattle.disk.proofs.Conditions.{notBetter, healthy-is, healthy-known, not-better-self}
+use Rattle.disk.proofs.SoundZone.{SoundZone, says-condition, says-healthy}
+use Rattle.consistency.proofs.Shown.{writtenTo, written-shown, fresh-size}
 use Rattle.consistency.proofs.Agrees.{gridRule, sizeBy, sizeOf, accessOf, Agrees, Live, live, size-last, row-last}
 
 -- the row that a failure leaves, by the zone's record
 abbrev pub failedRow : FileKind → ErrorPolicy → Command → Zone → Row → Row
 failedRow k p c z r = cond (nothingLost k (c .kind) z (r .size)) r (recoveredRow p k z r)
 
--- THE DISK'S OWN RECORD: a recovery by the zone itself
+-- A RECORD THAT SHOWS THE ZONE: a recovery by the zone itself
 
 abbrev recoveredBy : ErrorPolicy → Condition → ℕ → Row → Row
 recoveredBy p h f r = recoveredTo r (sizeBy (gridRule p h .size) f (r .size)) h (ruledAccess (gridRule p h .access) (r .access))
@@ -48,22 +49,42 @@ ruled-size SizeRule.Fixed z n = refl
 ruled-size SizeRule.AsIs z n = refl
 ruled-size SizeRule.Zero z n = refl
 
-recovered-by : (p : ErrorPolicy) (z : DiskZone) (r : Row) → recoveredRow p Sequential (reported z) r ≡ recoveredBy p (z .condition) (writtenTo z) r
-unfolding recoveredRow
-recovered-by p z r =
-    let q = reported z in
-    ap (λ n. recoveredTo r n (conditionOf q) (ruledAccess (recoveryRule p q .access) (r .access))) (ruled-size (recoveryRule p q .size) q (r .size))
-    ∙ ap (λ h. recoveredBy p h (writtenSize q) r) (says-condition (reported-shows z))
-    ∙ ap (λ f. recoveredBy p (z .condition) f r) (written-reported z)
+-- the pointer counts only where the zone is healthy
+size-alike : (p : ErrorPolicy) (h : Condition) (f g n : ℕ) → (h ≡ Healthy → f ≡ g) → sizeBy (gridRule p h .size) f n ≡ sizeBy (gridRule p h .size) g n
+size-alike RemountRo Healthy f g n e = e refl
+size-alike RemountRo ReadOnly f g n e = refl
+size-alike RemountRo Offline f g n e = refl
+size-alike ZoneRo Healthy f g n e = e refl
+size-alike ZoneRo ReadOnly f g n e = refl
+size-alike ZoneRo Offline f g n e = refl
+size-alike ZoneOffline Healthy f g n e = refl
+size-alike ZoneOffline ReadOnly f g n e = refl
+size-alike ZoneOffline Offline f g n e = refl
+size-alike Repair Healthy f g n e = e refl
+size-alike Repair ReadOnly f g n e = refl
+size-alike Repair Offline f g n e = refl
 
-failed-by : (p : ErrorPolicy) (c : Command) (z : DiskZone) (r : Row)
-    → failedRow Sequential p c (reported z) r ≡ cond (nothingLost Sequential (c .kind) (reported z) (r .size)) r (recoveredBy p (z .condition) (writtenTo z) r)
-failed-by p c z r = ap (λ x. cond (nothingLost Sequential (c .kind) (reported z) (r .size)) r x) (recovered-by p z r)
+test-alike : (h : Condition) (f g n : ℕ) → (h ≡ Healthy → f ≡ g) → isHealthy h && eqb n f ≡ isHealthy h && eqb n g
+test-alike Healthy f g n e = ap (eqb n) (e refl)
+test-alike ReadOnly f g n e = refl
+test-alike Offline f g n e = refl
 
-lost-by : (k : CommandKind) (z : DiskZone) (size : ℕ) → nothingLost Sequential k (reported z) size ≡ isRead k && (isHealthy (z .condition) && eqb size (writtenTo z))
-lost-by k z size =
-    ap (λ t. isRead k && (t && eqb size (writtenSize (reported z)))) (says-healthy (reported-shows z))
-    ∙ ap (λ n. isRead k && (isHealthy (z .condition) && eqb size n)) (written-reported z)
+module _ {q : Zone} {z : DiskZone} (w : ShowsZone q z) (k : z .kind ≡ Sequential) where
+  recovered-by : (p : ErrorPolicy) (r : Row) → recoveredRow p Sequential q r ≡ recoveredBy p (z .condition) (writtenTo z) r
+  unfolding recoveredRow
+  recovered-by p r =
+      ap (λ n. recoveredTo r n (conditionOf q) (ruledAccess (recoveryRule p q .access) (r .access))) (ruled-size (recoveryRule p q .size) q (r .size))
+      ∙ ap (λ h. recoveredBy p h (writtenSize q) r) (says-condition w)
+      ∙ ap (λ n. recoveredTo r n (z .condition) (ruledAccess (gridRule p (z .condition) .access) (r .access))) (size-alike p (z .condition) (writtenSize q) (writtenTo z) (r .size) (written-shown w k))
+
+  failed-by : (p : ErrorPolicy) (c : Command) (r : Row)
+      → failedRow Sequential p c q r ≡ cond (nothingLost Sequential (c .kind) q (r .size)) r (recoveredBy p (z .condition) (writtenTo z) r)
+  failed-by p c r = ap (λ x. cond (nothingLost Sequential (c .kind) q (r .size)) r x) (recovered-by p r)
+
+  lost-by : (c : CommandKind) (size : ℕ) → nothingLost Sequential c q size ≡ isRead c && (isHealthy (z .condition) && eqb size (writtenTo z))
+  lost-by c size =
+      ap (λ t. isRead c && (t && eqb size (writtenSize q))) (says-healthy w)
+      ∙ ap (λ t. isRead c && t) (test-alike (z .condition) (writtenSize q) (writtenTo z) size (written-shown w k))
 
 -- THE TABLE makes of size and access what the invariant wants of a recovered file
 
@@ -120,14 +141,15 @@ last-either P ReadOnly f last a b = b
 last-either P Offline f last a b = b
 
 module _ {b : ℕ} {p : ErrorPolicy} {z : DiskZone} {s : FileHistory} {r : Row} (block : IsBlock b) (a : Agrees b p z s r) (l : Live b p z s r) (reads : isNone (r .access) ≡ false)
-    (new : DiskZone) (sound : SoundZone b new) (kind : new .kind ≡ Sequential) (start : new .start ≡ z .start) (capacity : new .capacity ≡ z .capacity) (worse : notBetter (r .condition) (new .condition) ≡ true) where
+    (new : DiskZone) (sound : SoundZone b new) (kind : new .kind ≡ Sequential) (start : new .start ≡ z .start) (capacity : new .capacity ≡ z .capacity) (worse : notBetter (r .condition) (new .condition) ≡ true)
+    {q : Zone} (w : ShowsZone q new) where
   -- the history and the completion ask the same of a failed read
-  same-tests : (k : CommandKind) → harmless k new (s .lastSize) ≡ nothingLost Sequential k (reported new) (r .size)
+  same-tests : (k : CommandKind) → harmless k new (s .lastSize) ≡ nothingLost Sequential k q (r .size)
   same-tests k =
       ap (λ n. isRead k && (isHealthy (new .condition) && eqb (s .lastSize) n)) (fresh-size new)
       ∙ same-test (isRead k) (new .condition) (writtenTo new) (s .lastSize)
-      ∙ sym (lost-by k new (s .lastSize))
-      ∙ ap (λ n. nothingLost Sequential k (reported new) n) (sym (row-last l reads))
+      ∙ sym (lost-by w kind k (s .lastSize))
+      ∙ ap (λ n. nothingLost Sequential k q n) (sym (row-last l reads))
 
   lasts-healthy : new .condition ≡ Healthy → lastSizeAt true new (s .lastSize) ≡ writtenTo new
   lasts-healthy h = rw (fresh-size new) (last-healthy (new .condition) (writtenTo new) (s .lastSize) h)
@@ -149,7 +171,7 @@ module _ {b : ℕ} {p : ErrorPolicy} {z : DiskZone} {s : FileHistory} {r : Row} 
   }
 
   -- what the row and the history are after it, recovered or not
-  keeps-by : (k : CommandKind) (t : Bool) → nothingLost Sequential k (reported new) (r .size) ≡ t
+  keeps-by : (k : CommandKind) (t : Bool) → nothingLost Sequential k q (r .size) ≡ t
       → Agrees b p new (updated s new true (s .recovered || not t)) (cond t r (recoveredBy p (new .condition) (writtenTo new) r))
   keeps-by k false e = agrees-new (recoveredBy p (new .condition) (writtenTo new) r) refl refl (record {
     size = rw (or-true (s .recovered), row-last l reads, fresh-size new) (size-recovered p (new .condition) (writtenTo new) (s .lastSize));
@@ -163,7 +185,7 @@ module _ {b : ℕ} {p : ErrorPolicy} {z : DiskZone} {s : FileHistory} {r : Row} 
     mounted = l .mounted;
   })
   keeps-by k true e =
-      let unlost : isRead k && (isHealthy (new .condition) && eqb (r .size) (writtenTo new)) ≡ true = sym (lost-by k new (r .size)) ∙ e in
+      let unlost : isRead k && (isHealthy (new .condition) && eqb (r .size) (writtenTo new)) ≡ true = sym (lost-by w kind k (r .size)) ∙ e in
       let h : isHealthy (new .condition) ≡ true = search (and-left, and-right) in
       let f : eqb (r .size) (writtenTo new) ≡ true = search (and-left, and-right) in
       let healthy = healthy-is _ h in
@@ -180,6 +202,6 @@ module _ {b : ℕ} {p : ErrorPolicy} {z : DiskZone} {s : FileHistory} {r : Row} 
         mounted = l .mounted;
       })
 
-  pub keeps-failed : (c : Command) → Agrees b p new (afterFailure s c new) (failedRow Sequential p c (reported new) r)
+  pub keeps-failed : (c : Command) → Agrees b p new (afterFailure s c new) (failedRow Sequential p c q r)
   unfolding afterFailure
-  keeps-failed c = rw (same-tests (c .kind), failed-by p c new r) (keeps-by (c .kind) (nothingLost Sequential (c .kind) (reported new) (r .size)) refl)
+  keeps-failed c = rw (same-tests (c .kind), failed-by w kind p c r) (keeps-by (c .kind) (nothingLost Sequential (c .kind) q (r .size)) refl)

@@ -15,10 +15,10 @@ use Rattle.types.specs.declared.Condition.{Condition}
 use Rattle.types.specs.declared.ErrorPolicy.{ErrorPolicy}
 use Rattle.types.proofs.Tests.{both}
 use Rattle.types.specs.Predicates.{isConventional}
-use Rattle.consistency.specs.Disk.{DiskZone, moved}
+use Rattle.disk.specs.Disk.{DiskZone, moved, noZone, zoneHolding}
 use Rattle.consistency.specs.FileHistory.{FileHistory}
-use Rattle.consistency.specs.System.{noZone, noHistory, zoneHolding, holdsSeqFile}
-use Rattle.consistency.proofs.SoundZone.{SoundZone, sound-moved}
+use Rattle.consistency.specs.System.{noHistory, holdsSeqFile}
+use Rattle.disk.proofs.SoundZone.{SoundZone, sound-moved}
 use Rattle.consistency.proofs.Agrees.{Agrees}
 use Rattle.consistency.proofs.Bridge.{noRow}
 

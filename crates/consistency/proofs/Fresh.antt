@@ -18,11 +18,11 @@ use Rattle.zones.specs.declared.Zone.{Zone}
 use Rattle.zones.specs.Zone.{conventional, sequential, goodZone}
 use Rattle.report.proofs.Laws.{AllGood}
 use Rattle.files.specs.Files.{seqRows, startsConventional, joined, runsWith, runs, runRow, cnvRows}
-use Rattle.consistency.specs.Disk.{DiskZone}
+use Rattle.disk.specs.Disk.{DiskZone, noZone}
 use Rattle.consistency.specs.FileHistory.{FileHistory}
-use Rattle.consistency.specs.Shows.{ShowsZone, ShowsZones, none, next}
-use Rattle.consistency.specs.System.{noZone, noHistory, holdsSeqFile, fileZone}
-use Rattle.consistency.proofs.SoundZone.{SoundZone, record-good, says-conventional, says-sequential}
+use Rattle.disk.specs.Facts.{ShowsZone, ShowsZones, none, next}
+use Rattle.consistency.specs.System.{noHistory, holdsSeqFile, fileZone}
+use Rattle.disk.proofs.SoundZone.{SoundZone, record-good, says-conventional, says-sequential}
 use Rattle.consistency.proofs.Shown.{shownRow, seq-row}
 use Rattle.consistency.proofs.Agrees.{Agrees}
 use Rattle.consistency.proofs.Bridge.{noRow}

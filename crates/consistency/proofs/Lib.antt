@@ -1,6 +1,3 @@
-pub mod Whole
-pub mod Conditions
-pub mod SoundZone
 pub mod Shown
 pub mod Agrees
 pub mod Mishaps
@@ -22,6 +19,3 @@ pub mod Start
 pub mod Fresh
 pub mod Demand
 pub mod Report
-pub mod Computed
-pub mod Cases
-pub mod Runs

@@ -6,23 +6,27 @@ use Prim.Native.Nat.{ℕ}
 use lib.Dec.{eqb}
 use borrow.Author.Tests.{eqb-true}
 use Rattle.types.specs.declared.Row.{Row}
+use Rattle.types.specs.declared.FileKind.the-variants.{Sequential}
+use Rattle.types.specs.declared.Condition.the-variants.{Healthy}
 use Rattle.types.specs.declared.ErrorPolicy.{ErrorPolicy}
-use Rattle.types.proofs.Tests.{and-left, and-right}
+use Rattle.types.specs.Codes.{conditionCode}
+use Rattle.types.proofs.Tests.{and-left, and-right, means-out}
 use Rattle.types.proofs.Blocks.{IsBlock}
-use Rattle.consistency.specs.Disk.{DiskZone, Mishap, moved, struck}
+use Rattle.disk.specs.Disk.{DiskZone, hasPointer, Mishap, moved, struck}
 use Rattle.consistency.specs.FileHistory.{FileHistory, unmoved, afterMishap}
-use Rattle.consistency.proofs.Conditions.{same-condition, not-better, unhealthy-still, offline-still}
-use Rattle.consistency.proofs.SoundZone.{sound-struck}
+use Rattle.disk.proofs.Conditions.{same-condition, not-better, unhealthy-still, offline-still}
+use Rattle.disk.proofs.SoundZone.{sound-struck}
 use Rattle.consistency.proofs.Shown.{writtenTo}
 use Rattle.consistency.proofs.Agrees.{Agrees, RowState, live, dead}
 
 unmoved-condition : (z new : DiskZone) → unmoved z new ≡ true → z .condition ≡ new .condition
 unfolding unmoved
-unmoved-condition z new e = same-condition (z .condition) (new .condition) (and-right (eqb (z .pointer) (new .pointer)) _ e)
+unmoved-condition z new e = same-condition (z .condition) (new .condition) (and-left _ _ e)
 
-unmoved-pointer : (z new : DiskZone) → unmoved z new ≡ true → z .pointer ≡ new .pointer
+unmoved-pointer : (z new : DiskZone) → unmoved z new ≡ true → z .kind ≡ Sequential → z .condition ≡ Healthy → z .pointer ≡ new .pointer
 unfolding unmoved
-unmoved-pointer z new e = eqb-true _ _ (and-left _ _ e)
+unmoved-pointer z new e k h =
+    eqb-true _ _ (means-out (hasPointer z) _ (and-right (eqb (conditionCode (z .condition)) (conditionCode (new .condition))) _ e) (rw (k, h)))
 
 last-still : (z new : DiskZone) {n : ℕ} → new .start ≡ z .start → z .pointer ≡ new .pointer → n ≡ writtenTo z → n ≡ writtenTo new
 last-still z new s p e = rw (← p, s) e
@@ -47,8 +51,10 @@ keeps-mishap {b} {p} {z} {s} {r} k e a = record {
       access = l .access;
       intact = l .intact;
       known = λ q. sym (unmoved-condition z new (and-right (s .quiet) (unmoved z new) q)) ∙ l .known (and-left _ _ q);
-      last = λ q h. last-still z new refl (unmoved-pointer z new (and-right (s .quiet) (unmoved z new) q))
-          (l .last (and-left _ _ q) (unmoved-condition z new (and-right (s .quiet) (unmoved z new) q) ∙ h));
+      last = λ q h.
+          let u = and-right (s .quiet) (unmoved z new) q in
+          let healthy = unmoved-condition z new u ∙ h in
+          last-still z new refl (unmoved-pointer z new u (a .kind) healthy) (l .last (and-left _ _ q) healthy);
       worse = not-better (r .condition) (z .condition) (e .harm) (l .worse);
       whole = l .whole;
       fits = l .fits;

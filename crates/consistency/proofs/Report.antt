@@ -17,12 +17,11 @@ use Rattle.types.specs.Blocks.{mostZones}
 use Rattle.zones.specs.declared.Zone.{Zone}
 use Rattle.zones.proofs.Encoded.{ReadBack}
 use Rattle.report.proofs.Encoded.{AllReadBack, ByteKinds, encoded-header, encoded-zones, encoded-bytes}
-use Rattle.consistency.specs.Disk.{DiskZone, typeByte, healthyByte, conditionByte, reported}
+use Rattle.disk.specs.Disk.{DiskZone, typeByte, healthyByte, conditionByte, reported, diskReport}
 use Rattle.consistency.specs.FileHistory.{FileHistory}
-use Rattle.consistency.specs.Shows.{ShowsZone, ShowsZones, Shows}
-use Rattle.consistency.specs.Shows as shows
-use Rattle.consistency.specs.Demand.{diskReport}
-use Rattle.consistency.proofs.SoundZone.{SoundZone, kind-shown, reported-shows}
+use Rattle.disk.specs.Facts.{ShowsZone, ShowsZones, Shows}
+use Rattle.disk.specs.Facts as shows
+use Rattle.disk.proofs.SoundZone.{SoundZone, kind-shown, reported-shows}
 use Rattle.consistency.proofs.Files.{Files}
 use Rattle.consistency.proofs.Files as files
 
@@ -50,8 +49,8 @@ module _ {b : ℕ} {p : ErrorPolicy} where
   zones-show (files.other e f s t) (AllReadBack.next k ks) = shows.next (back-shows s k) (zones-show t ks)
   zones-show (files.file e a t) (AllReadBack.next k ks) = shows.next (back-shows (a .sound) k) (zones-show t ks)
 
-  pub report-shows : {at : ℕ} {zs : List DiskZone} {ss : List FileHistory} {rows : List Row} {k : ℕ} → Files b p at zs ss rows k → 1 ≤ length zs → length zs ≤ mostZones → Shows (diskReport zs) zs
-  report-shows {zs = zs} f some few =
+  pub disk-shown : {at : ℕ} {zs : List DiskZone} {ss : List FileHistory} {rows : List Row} {k : ℕ} → Files b p at zs ss rows k → 1 ≤ length zs → length zs ≤ mostZones → Shows (diskReport zs) zs
+  disk-shown {zs = zs} f some few =
       let same = length-map zs reported in
       let few′ : length (map reported zs) ≤ mostZones = omega (arith, same) in
       record { header = encoded-header (map reported zs) few′ (omega (arith, same)); zones = zones-show f (encoded-zones (map reported zs) few′) }

@@ -12,10 +12,10 @@ use Rattle.types.specs.Predicates.{isHealthy}
 use Rattle.zones.specs.declared.Zone.{Zone}
 use Rattle.zones.specs.Zone.{healthy, writtenSize}
 use Rattle.files.specs.Files.{fileRow, seqRow}
-use Rattle.consistency.specs.Disk.{DiskZone, reported}
+use Rattle.disk.specs.Disk.{DiskZone, reported}
 use Rattle.consistency.specs.FileHistory.{freshSize}
-use Rattle.consistency.specs.Shows.{ShowsZone}
-use Rattle.consistency.proofs.SoundZone.{says-healthy, reported-shows}
+use Rattle.disk.specs.Facts.{ShowsZone}
+use Rattle.disk.proofs.SoundZone.{says-healthy, reported-shows}
 
 -- the bytes up to the pointer
 abbrev pub writtenTo : DiskZone → ℕ
@@ -46,11 +46,14 @@ row-shown {r} {z} w written =
     ∙ ap (λ c. rowBy (isHealthy (z .condition)) (z .start) (c * 512) (writtenSize r)) (w .capacity)
     ∙ row-same (z .condition) (z .start) (z .capacity * 512) (writtenSize r) (writtenTo z) written
 
+pub written-shown : {r : Zone} {z : DiskZone} → ShowsZone r z → z .kind ≡ Sequential → z .condition ≡ Healthy → writtenSize r ≡ writtenTo z
+written-shown w k h = let p = w .pointer k h in let s = w .start in rw (p, s)
+
 pub seq-row : {r : Zone} {z : DiskZone} → ShowsZone r z → z .kind ≡ Sequential → seqRow r ≡ shownRow z
-seq-row {r} {z} w k = row-shown w (λ h. let p = w .pointer k h in let s = w .start in rw (p, s))
+seq-row w k = row-shown w (written-shown w k)
 
 -- the disk's own record
-pub written-reported : (z : DiskZone) → writtenSize (reported z) ≡ writtenTo z
+written-reported : (z : DiskZone) → writtenSize (reported z) ≡ writtenTo z
 unfolding reported
 written-reported z = refl
 

@@ -24,12 +24,11 @@ use Rattle.zones.specs.Zone.{conventional, sequential}
 use Rattle.zones.proofs.Laws.{zone-told}
 use Rattle.report.proofs.Laws.{AllGood}
 use Rattle.files.specs.Files.{seqRow, rowIf, seqRows, startsConventional, runsWith, runs, joined, runRow, startOf, capacityOf, allHealthy, cnvRows}
-use Rattle.consistency.specs.Disk.{DiskZone}
+use Rattle.disk.specs.Disk.{DiskZone, noZone, zoneHolding}
 use Rattle.consistency.specs.FileHistory.{atMount}
-use Rattle.consistency.specs.Shows.{ShowsZone, ShowsZones, none, next}
-use Rattle.consistency.specs.System.{noZone, zoneHolding}
-use Rattle.consistency.proofs.Whole.{whole-size, whole-next}
-use Rattle.consistency.proofs.SoundZone.{SoundZone, sound-of, says-conventional, says-sequential}
+use Rattle.disk.specs.Facts.{ShowsZone, ShowsZones, none, next}
+use Rattle.disk.proofs.Whole.{whole-size, whole-next}
+use Rattle.disk.proofs.SoundZone.{SoundZone, sound-of, says-conventional, says-sequential}
 use Rattle.consistency.proofs.Shown.{shownRow, file-row, seq-row, fresh-size}
 use Rattle.consistency.proofs.Agrees.{Agrees, RowState, live, dead}
 use Rattle.consistency.proofs.Bridge.{noRow}

@@ -1,10 +1,11 @@
--- Every event keeps the invariant of the system, and no truthful completion is answered 8, 9 or 10.
+-- Every truthful event keeps the invariant of the system, and no truthful completion is answered 8, 9 or 10.
 -- Assumes nothing.
-use mathlib.Core.Bool.{Bool, true, false, not, cond, _&&_}
+use mathlib.Core.Bool.{Bool, true, false, not, cond, _&&_, _||_}
 use mathlib.Core.List.{List, [], _∷_}
 use mathlib.Core.Path.{_≡_, refl, sym, _∙_, subst}
 use Prim.Native.Nat.{ℕ, _<_}
-use lib.ListN.{getD, set}
+use lib.ListN.{length, getD, set}
+use borrow.Author.Tests.{eq-eqb}
 use Rattle.types.specs.declared.Row.{Row}
 use Rattle.types.specs.declared.Volume.{Volume}
 use Rattle.types.specs.declared.Mount.{Mount}
@@ -21,25 +22,37 @@ use Rattle.types.specs.declared.Answer.the-variants.{Refused, Done, Issue}
 use Rattle.types.specs.declared.Outstanding.{Outstanding}
 use Rattle.types.specs.declared.Outstanding.the-variants.{Idle, Busy}
 use Rattle.types.specs.Kinds.{ofKind, filesOf}
+use Rattle.types.specs.Codes.{isKind, kindFrom}
+use Rattle.types.specs.Effects.{refusing}
 use Rattle.types.specs.Mounts.{holding}
+use Rattle.types.proofs.Tests.{and-left, and-right}
 use Rattle.types.proofs.Blocks.{IsBlock}
 use Rattle.table.specs.declared.Slot.the-variants.{Good}
-use Rattle.table.specs.Rows.{rowAt}
-use Rattle.calls.specs.Calls.{answered, settled}
+use Rattle.table.specs.Rows.{rowAt, stored}
+use Rattle.checks.specs.Checks.{noKind}
+use Rattle.calls.specs.Calls.{answered, settled, effectBy}
+use Rattle.calls.specs.Calls as calls
 use Rattle.checks.proofs.Laws.{reached-sound}
 use Rattle.calls.proofs.Laws.{call-passed}
 use Rattle.zones.specs.declared.Zone.{Zone}
-use Rattle.completion.specs.declared.Effect.{Effect}
+use Rattle.zones.specs.Zone.{zoneBytes, zoneAt}
+use Rattle.types.specs.declared.Effect.{Effect}
 use Rattle.recovery.specs.Fits.{recordFits}
 use Rattle.recovery.specs.Recovery.{nothingLost, recoveredRow}
 use Rattle.held.specs.Facts.{Ready}
 use Rattle.held.proofs.Issuable.{issuable-complete}
-use Rattle.completion.specs.Completions.{Completion, good, failed, stored, effectOf}
+use Rattle.completion.specs.Completions.{Completion, failed, completionOf, completionBy, effectOf}
 use Rattle.completion.proofs.Laws.{effect-idle, effect-fixes}
-use Rattle.consistency.specs.Disk.{DiskZone, Mishap, Choice, Performed, reported, moved, worsened, fallen, struck, perform, performedBy, allows}
+use Rattle.disk.specs.Disk.{DiskZone, Mishap, Choice, Performed, moved, worsened, fallen, struck, perform, performedBy, allows, noZone}
 use Rattle.consistency.specs.FileHistory.{FileHistory}
-use Rattle.consistency.specs.System.{System, noZone, holdsSeqFile, Event, call, mishap, doing, stray, truthful, completedTo, placeOf, performIn, settledIn, doneBy, strayBy, step, run}
-use Rattle.consistency.proofs.SoundZone.{sound-struck}
+use Rattle.engine.specs.Engine.{Step, applied}
+use Rattle.engine.specs.Engine as engine
+use Rattle.engine.specs.Facts.{stateOf}
+use Rattle.engine.proofs.Laws.{call-steps}
+use Rattle.disk.specs.Shows.{showsRecord}
+use Rattle.disk.proofs.Shows.{Recorded, record-told}
+use Rattle.consistency.specs.System.{System, holdsSeqFile, Event, call, mishap, doing, stray, placeOf, performIn, settledIn, doneBy, strayBy, step, run, truthfulBy, truthful, allTruthful}
+use Rattle.disk.proofs.SoundZone.{sound-struck}
 use Rattle.consistency.proofs.Mishaps.{keeps-mishap}
 use Rattle.consistency.proofs.Issued.{Within, Issued, issuable-tells}
 use Rattle.consistency.proofs.Doings.{completedRow, keeps-command}
@@ -58,16 +71,16 @@ Holds Idle m c s = Unit {0}
 Holds (Busy h) m c s = Holding m c s h
 
 pub record Invariant (v : Volume) (ks : List FileKind) (w : System) : Type 0 where
-  pub same : w .mount .volume ≡ v
-  pub block : IsBlock (w .mount .volume .block)
+  pub same : w .state .mount .volume ≡ v
+  pub block : IsBlock (w .state .mount .volume .block)
   pub zones : kinds (w .disk) ≡ ks
   pub rows : List Row
-  pub listed : Listed (w .seq) rows (w .mount .volume .sequential)
-  pub files : Files (w .mount .volume .block) (w .mount .volume .policy) 0 (w .disk) (w .histories) rows (w .mount .volume .sequential)
+  pub listed : Listed (w .state .seq) rows (w .state .mount .volume .sequential)
+  pub files : Files (w .state .mount .volume .block) (w .state .mount .volume .policy) 0 (w .disk) (w .histories) rows (w .state .mount .volume .sequential)
   pub plain : List Row
-  pub plainly : Listed (w .cnv) plain (w .mount .volume .conventional)
-  pub covers : (n : ℕ) → n < w .mount .volume .conventional → Covers (w .mount .volume .block) (w .disk) (getD plain n noRow)
-  pub held : Holds (w .mount .outstanding) (w .mount) (w .cnv) (w .seq)
+  pub plainly : Listed (w .state .cnv) plain (w .state .mount .volume .conventional)
+  pub covers : (n : ℕ) → n < w .state .mount .volume .conventional → Covers (w .state .mount .volume .block) (w .disk) (getD plain n noRow)
+  pub held : Holds (w .state .mount .outstanding) (w .state .mount) (w .state .cnv) (w .state .seq)
 
 -- A CALL. What it issues is ready. (Calls don't examine the held command.)
 call-ready : (m : Mount) (c s : List ℕ) (k : FileKind) (n : ℕ) (x : Call) (d : Command) → answered m c s k n x ≡ Issue d → Holding (holding m (holdOf k n d)) c s (holdOf k n d)
@@ -75,15 +88,20 @@ call-ready m c s k n x d e =
     let (r, (p, g)) = call-passed m c s k n x d e in
     record { row = r; ready = record { held = refl; reached = p .reached; issued = issuable-complete (m .readonly) (m .volume .block) k r x d g } }
 
-invariant-call : {v : Volume} {ks : List FileKind} {w : System} → Invariant v ks w → (k : FileKind) (n : ℕ) (x : Call) → Invariant v ks (step w (call k n x))
-unfolding step
-invariant-call {v} {ks} {w} r k n x = by (answered (w .mount) (w .cnv) (w .seq) k n x) refl
+-- the invariant with another mount value
+abbrev With : Volume → List FileKind → System → Mount → Type 0
+With v ks w m = Invariant v ks (record { state = stateOf m (w .state .cnv) (w .state .seq); disk = w .disk; histories = w .histories })
+
+invariant-call : {v : Volume} {ks : List FileKind} {w : System} → Invariant v ks w → (kind n : ℕ) (x : Call) → Invariant v ks (step w (call kind n x))
+unfolding step effectBy
+invariant-call {v} {ks} {w} r kind n x =
+    subst (λ (t : Step). Invariant v ks (record { state = t .state; disk = w .disk; histories = w .histories }))
+    (sym (call-steps (w .state .mount) (w .state .cnv) (w .state .seq) kind n x)) (by (isKind kind))
   where
-    by : (a : Answer) → answered (w .mount) (w .cnv) (w .seq) k n x ≡ a
-        → Invariant v ks (record { mount = settled (w .mount) k n a .mount; cnv = w .cnv; seq = w .seq; disk = w .disk; histories = w .histories })
-    by (Refused y) e = r
-    by (Done y) e = r
-    by (Issue d) e = record {
+    settles : (k : FileKind) (a : Answer) → answered (w .state .mount) (w .state .cnv) (w .state .seq) k n x ≡ a → With v ks w (settled (w .state .mount) k n a .outcome .mount)
+    settles k (Refused y) e = r
+    settles k (Done y) e = r
+    settles k (Issue d) e = record {
       same = r .same;
       block = r .block;
       zones = r .zones;
@@ -93,14 +111,18 @@ invariant-call {v} {ks} {w} r k n x = by (answered (w .mount) (w .cnv) (w .seq) 
       plain = r .plain;
       plainly = r .plainly;
       covers = r .covers;
-      held = call-ready (w .mount) (w .cnv) (w .seq) k n x d e;
+      held = call-ready (w .state .mount) (w .state .cnv) (w .state .seq) k n x d e;
     }
+
+    by : (t : Bool) → With v ks w (cond t (calls.effectOf (w .state .mount) (w .state .cnv) (w .state .seq) (kindFrom kind) n x) (refusing (w .state .mount) (noKind (w .state .mount .volume) (length (w .state .cnv)) (length (w .state .seq)))) .outcome .mount)
+    by true = settles (kindFrom kind) (answered (w .state .mount) (w .state .cnv) (w .state .seq) (kindFrom kind) n x) refl
+    by false = r
 
 -- A MISHAP.
 invariant-mishap : {v : Volume} {ks : List FileKind} {w : System} → Invariant v ks w → (i : ℕ) (e : Mishap) → Invariant v ks (step w (mishap i e))
 unfolding step struck moved
 invariant-mishap {v} {ks} {w} r i e =
-    let b = w .mount .volume .block in
+    let b = w .state .mount .volume .block in
     let z = getD (w .disk) i noZone in
     record {
       same = r .same;
@@ -150,11 +172,17 @@ plain-in-place false p c z r = by (nothingLost Conventional (c .kind) z (r .size
     by true = (refl, refl)
     by false = (refl, refl)
 
+-- a failure's bytes, where they are as many as a record has
+failure-told : (given : Bool) (bytes : List ℕ) → length bytes ≡ zoneBytes → completionOf given bytes ≡ failed (zoneAt given bytes 0)
+unfolding completionOf
+failure-told given bytes e = rw (eq-eqb _ _ e)
+
 -- the answer to a truthful completion: the count, or 7 with the new size
 abbrev pub replied : Bool → Command → Row → Answer
 replied t c r = cond t (Done (c .length)) (Refused (refusal.Failed (r .size)))
 
-module _ {v : Volume} {ks : List FileKind} {w : System} (r : Invariant v ks w) (k : FileKind) (n : ℕ) (c : Command) (e : w .mount .outstanding ≡ Busy (holdOf k n c)) (o : Choice) where
+module _ {v : Volume} {ks : List FileKind} {w : System} (r : Invariant v ks w) (k : FileKind) (n : ℕ) (c : Command) (e : w .state .mount .outstanding ≡ Busy (holdOf k n c)) (o : Choice)
+    (given : Bool) (bytes : List ℕ) where
   abbrev row : Row
   row = getD (ofKind k (r .plain) (r .rows)) n noRow
 
@@ -162,53 +190,53 @@ module _ {v : Volume} {ks : List FileKind} {w : System} (r : Invariant v ks w) (
   done = performIn w c o
 
   abbrev pub new : Row
-  new = completedRow k (done .succeeded) (w .mount .volume .policy) c (reported (done .zone)) row
+  new = completedRow k (done .succeeded) (w .state .mount .volume .policy) c (zoneAt given bytes 0) row
 
-  hold : Holding (w .mount) (w .cnv) (w .seq) (holdOf k n c)
-  hold = subst (λ (x : Outstanding). Holds x (w .mount) (w .cnv) (w .seq)) e (r .held)
+  hold : Holding (w .state .mount) (w .state .cnv) (w .state .seq) (holdOf k n c)
+  hold = subst (λ (x : Outstanding). Holds x (w .state .mount) (w .state .cnv) (w .state .seq)) e (r .held)
 
-  pub known : n < filesOf k (w .mount .volume)
+  pub known : n < filesOf k (w .state .mount .volume)
   known = hold .ready .reached .number
 
-  listed-row : (k : FileKind) → n < filesOf k (w .mount .volume) → rowAt (ofKind k (w .cnv) (w .seq)) n ≡ Good (getD (ofKind k (r .plain) (r .rows)) n noRow)
+  listed-row : (k : FileKind) → n < filesOf k (w .state .mount .volume) → rowAt (ofKind k (w .state .cnv) (w .state .seq)) n ≡ Good (getD (ofKind k (r .plain) (r .rows)) n noRow)
   listed-row Conventional h = r .plainly .row n h
   listed-row Sequential h = r .listed .row n h
 
   same-row : hold .row ≡ row
   same-row = let p = hold .ready .reached .row in let q = listed-row k known in let g : Good (hold .row) ≡ Good row = sym p ∙ q in cc
 
-  pub ready : Ready (w .mount) (w .cnv) (w .seq) (holdOf k n c) row
-  ready = subst (λ (x : Row). Ready (w .mount) (w .cnv) (w .seq) (holdOf k n c) x) same-row (hold .ready)
+  pub ready : Ready (w .state .mount) (w .state .cnv) (w .state .seq) (holdOf k n c) row
+  ready = subst (λ (x : Row). Ready (w .state .mount) (w .state .cnv) (w .state .seq) (holdOf k n c) x) same-row (hold .ready)
 
-  pub issue : Issued (w .mount .volume .block) k row c
-  issue = issuable-tells (w .mount .readonly) (w .mount .volume .block) k row c (ready .issued)
+  pub issue : Issued (w .state .mount .volume .block) k row c
+  issue = issuable-tells (w .state .mount .readonly) (w .state .mount .volume .block) k row c (ready .issued)
 
   pub lies : Within row (c .address)
-  lies = issue .within (reached-sound (w .mount .volume) (w .cnv) (w .seq) k n row (ready .reached) .roomy)
+  lies = issue .within (reached-sound (w .state .mount .volume) (w .state .cnv) (w .state .seq) k n row (ready .reached) .roomy)
 
   -- the completion is answered by the count or by 7, and leaves the row that the disk's doing asks for
-  pub completed : (done .succeeded ≡ false → recordFits (w .mount .volume .block) k row (reported (done .zone)) ≡ true)
-      → Completed (w .mount) (w .cnv) (w .seq) k n new (replied (done .succeeded) c new) (effectOf (w .mount) (w .cnv) (w .seq) (truthful done))
-  completed f = by (done .succeeded) (done .zone) f
+  pub completed : (done .succeeded ≡ false → length bytes ≡ zoneBytes) → (done .succeeded ≡ false → recordFits (w .state .mount .volume .block) k row (zoneAt given bytes 0) ≡ true)
+      → Completed (w .state .mount) (w .state .cnv) (w .state .seq) k n new (replied (done .succeeded) c new) (effectOf (w .state .mount) (w .state .cnv) (w .state .seq) (completionBy (done .succeeded) given bytes))
+  completed long fits = by (done .succeeded) long fits
     where
-      by : (t : Bool) (z : DiskZone) → (t ≡ false → recordFits (w .mount .volume .block) k row (reported z) ≡ true)
-          → let x = completedRow k t (w .mount .volume .policy) c (reported z) row in
-          Completed (w .mount) (w .cnv) (w .seq) k n x (replied t c x) (effectOf (w .mount) (w .cnv) (w .seq) (cond t good (failed (reported z))))
-      by true z f = good-completed (w .mount) (w .cnv) (w .seq) k n c row ready
-      by false z f = failed-completed (w .mount) (w .cnv) (w .seq) k n c row ready (reported z) (f refl)
+      by : (t : Bool) → (t ≡ false → length bytes ≡ zoneBytes) → (t ≡ false → recordFits (w .state .mount .volume .block) k row (zoneAt given bytes 0) ≡ true)
+          → let x = completedRow k t (w .state .mount .volume .policy) c (zoneAt given bytes 0) row in
+          Completed (w .state .mount) (w .state .cnv) (w .state .seq) k n x (replied t c x) (effectOf (w .state .mount) (w .state .cnv) (w .state .seq) (completionBy t given bytes))
+      by true long fits = good-completed (w .state .mount) (w .state .cnv) (w .state .seq) k n c row ready
+      by false long fits = rw (failure-told given bytes (long refl)) (failed-completed (w .state .mount) (w .state .cnv) (w .state .seq) k n c row ready (zoneAt given bytes 0) (fits refl))
 
   zones-after : kinds (set (w .disk) (placeOf w c) (done .zone)) ≡ ks
   zones-after = performed-moved (λ x. kinds (set (w .disk) (placeOf w c) x) ≡ ks) _ _ _ c o (λ to h. kinds-set (w .disk) (placeOf w c) to h ∙ r .zones)
 
-  pub covers-after : (m : ℕ) → m < w .mount .volume .conventional → Covers (w .mount .volume .block) (set (w .disk) (placeOf w c) (done .zone)) (getD (r .plain) m noRow)
-  covers-after m h = performed-moved (λ x. Covers (w .mount .volume .block) (set (w .disk) (placeOf w c) x) (getD (r .plain) m noRow)) _ _ _ c o (λ to x. covers-set (w .disk) (placeOf w c) to x (r .covers m h))
+  pub covers-after : (m : ℕ) → m < w .state .mount .volume .conventional → Covers (w .state .mount .volume .block) (set (w .disk) (placeOf w c) (done .zone)) (getD (r .plain) m noRow)
+  covers-after m h = performed-moved (λ x. Covers (w .state .mount .volume .block) (set (w .disk) (placeOf w c) x) (getD (r .plain) m noRow)) _ _ _ c o (λ to x. covers-set (w .disk) (placeOf w c) to x (r .covers m h))
 
   -- what the completion leaves has the invariant, with these rows of the seq files and of the cnv files
-  pub invariant-settled : {d : Effect} {a : Answer} {ss : List FileHistory} (rows plain : List Row) → let vol = w .mount .volume in let disk = set (w .disk) (placeOf w c) (done .zone) in
-      d .outcome .mount .volume ≡ vol → Completed (w .mount) (w .cnv) (w .seq) k n new a d
-      → Listed (stored Sequential (d .store) (w .seq)) rows (vol .sequential) → Files (vol .block) (vol .policy) 0 disk ss rows (vol .sequential)
-      → Listed (stored Conventional (d .store) (w .cnv)) plain (vol .conventional) → ((m : ℕ) → m < vol .conventional → Covers (vol .block) disk (getD plain m noRow))
-      → Invariant v ks (completedTo w d disk ss)
+  pub invariant-settled : {d : Effect} {a : Answer} {ss : List FileHistory} (rows plain : List Row) → let vol = w .state .mount .volume in let disk = set (w .disk) (placeOf w c) (done .zone) in
+      d .outcome .mount .volume ≡ vol → Completed (w .state .mount) (w .state .cnv) (w .state .seq) k n new a d
+      → Listed (stored Sequential (d .store) (w .state .seq)) rows (vol .sequential) → Files (vol .block) (vol .policy) 0 disk ss rows (vol .sequential)
+      → Listed (stored Conventional (d .store) (w .state .cnv)) plain (vol .conventional) → ((m : ℕ) → m < vol .conventional → Covers (vol .block) disk (getD plain m noRow))
+      → Invariant v ks (record { state = applied (w .state) d; disk = disk; histories = ss })
   invariant-settled {d} rows plain u g listed files plainly covers =
       record {
         same = u ∙ r .same;
@@ -220,74 +248,90 @@ module _ {v : Volume} {ks : List FileKind} {w : System} (r : Invariant v ks w) (
         plain = plain;
         plainly = rw u plainly;
         covers = rw u covers;
-        held = subst (λ (x : Outstanding). Holds x (d .outcome .mount) (stored Conventional (d .store) (w .cnv)) (stored Sequential (d .store) (w .seq))) (sym (g .idle)) tt;
+        held = subst (λ (x : Outstanding). Holds x (d .outcome .mount) (stored Conventional (d .store) (w .state .cnv)) (stored Sequential (d .store) (w .state .seq))) (sym (g .idle)) tt;
       }
 
-module _ {v : Volume} {ks : List FileKind} {w : System} (r : Invariant v ks w) (n : ℕ) (c : Command) (o : Choice) where
+-- what a truthful doing tells of its bytes
+abbrev pub Told : System → Command → Choice → Bool → List ℕ → Type 0
+Told w c o given bytes = performIn w c o .succeeded ≡ false → Recorded given bytes (performIn w c o .zone)
+
+module _ {v : Volume} {ks : List FileKind} {w : System} (r : Invariant v ks w) (n : ℕ) (c : Command) (o : Choice) (given : Bool) (bytes : List ℕ) (told : Told w c o given bytes) where
+  abbrev answer : Completion
+  answer = completionBy (performIn w c o .succeeded) given bytes
+
   -- a command of a seq file
-  module _ (e : w .mount .outstanding ≡ Busy (holdOf Sequential n c)) where
-    owns : Own (w .mount .volume .block) (w .mount .volume .policy) 0 (w .disk) (w .histories) (r .rows) (w .mount .volume .sequential) n (placeOf w c)
-    owns = own (r .files) n (c .address) (known r Sequential n c e o) (lies r Sequential n c e o .low) (lies r Sequential n c e o .high)
+  module _ (e : w .state .mount .outstanding ≡ Busy (holdOf Sequential n c)) where
+    owns : Own (w .state .mount .volume .block) (w .state .mount .volume .policy) 0 (w .disk) (w .histories) (r .rows) (w .state .mount .volume .sequential) n (placeOf w c)
+    owns = own (r .files) n (c .address) (known r Sequential n c e o given bytes) (lies r Sequential n c e o given bytes .low) (lies r Sequential n c e o given bytes .high)
 
-    pub seq-completed : let d = performIn w c o in let x = new r Sequential n c e o in
-        Completed (w .mount) (w .cnv) (w .seq) Sequential n x (replied (d .succeeded) c x) (effectOf (w .mount) (w .cnv) (w .seq) (truthful d))
-    seq-completed = completed r Sequential n c e o (report-fits (r .block) (owns .agrees) c (issue r Sequential n c e o) o)
+    pub seq-completed : let x = new r Sequential n c e o given bytes in
+        Completed (w .state .mount) (w .state .cnv) (w .state .seq) Sequential n x (replied (performIn w c o .succeeded) c x) (effectOf (w .state .mount) (w .state .cnv) (w .state .seq) answer)
+    seq-completed = completed r Sequential n c e o given bytes (λ f. told f .long) (λ f. report-fits (r .block) (owns .agrees) c (issue r Sequential n c e o given bytes) o (zoneAt given bytes 0) f (told f .shows))
 
-    invariant-seq : Invariant v ks (settledIn w c (performIn w c o))
-    invariant-seq = invariant-settled r Sequential n c e o (set (r .rows) n (new r Sequential n c e o)) (r .plain) (effect-fixes (w .mount) (w .cnv) (w .seq) (truthful (performIn w c o))) seq-completed
-        (listed-became (r .listed) (known r Sequential n c e o) (seq-completed .here))
-        (owns .put _ _ _ (start-kept _ _ _ c o) (length-kept _ _ _ c o) (keeps-command (r .block) (owns .agrees) c (issue r Sequential n c e o) o))
-        (rw (seq-completed .other Conventional (w .cnv) (λ q. kinds-differ (sym q))) (r .plainly))
-        (covers-after r Sequential n c e o)
+    invariant-seq : Invariant v ks (settledIn w c (performIn w c o) answer)
+    unfolding engine.step
+    invariant-seq = invariant-settled r Sequential n c e o given bytes (set (r .rows) n (new r Sequential n c e o given bytes)) (r .plain) (effect-fixes (w .state .mount) (w .state .cnv) (w .state .seq) answer) seq-completed
+        (listed-became (r .listed) (known r Sequential n c e o given bytes) (seq-completed .here))
+        (owns .put _ _ _ (start-kept _ _ _ c o) (length-kept _ _ _ c o) (keeps-command (r .block) (owns .agrees) c (issue r Sequential n c e o given bytes) o (zoneAt given bytes 0) (λ f. told f .shows)))
+        (rw (seq-completed .other Conventional (w .state .cnv) (λ q. kinds-differ (sym q))) (r .plainly))
+        (covers-after r Sequential n c e o given bytes)
 
   -- a command of a cnv file
-  module _ (e : w .mount .outstanding ≡ Busy (holdOf Conventional n c)) where
-    stands : Inside (w .mount .volume .block) (getD (r .plain) n noRow) (getD (w .disk) (placeOf w c) noZone)
-    stands = r .covers n (known r Conventional n c e o) .at (c .address) (lies r Conventional n c e o .low) (lies r Conventional n c e o .high)
+  module _ (e : w .state .mount .outstanding ≡ Busy (holdOf Conventional n c)) where
+    stands : Inside (w .state .mount .volume .block) (getD (r .plain) n noRow) (getD (w .disk) (placeOf w c) noZone)
+    stands = r .covers n (known r Conventional n c e o given bytes) .at (c .address) (lies r Conventional n c e o given bytes .low) (lies r Conventional n c e o given bytes .high)
 
-    stood : Inside (w .mount .volume .block) (getD (r .plain) n noRow) (performIn w c o .zone)
-    stood = performed-moved (λ x. Inside (w .mount .volume .block) (getD (r .plain) n noRow) x) _ _ _ c o (λ to h. inside-moved stands to h)
+    stood : Inside (w .state .mount .volume .block) (getD (r .plain) n noRow) (performIn w c o .zone)
+    stood = performed-moved (λ x. Inside (w .state .mount .volume .block) (getD (r .plain) n noRow) x) _ _ _ c o (λ to h. inside-moved stands to h)
 
-    pub cnv-completed : let d = performIn w c o in let x = new r Conventional n c e o in
-        Completed (w .mount) (w .cnv) (w .seq) Conventional n x (replied (d .succeeded) c x) (effectOf (w .mount) (w .cnv) (w .seq) (truthful d))
-    cnv-completed = completed r Conventional n c e o (λ f. inside-fits stood)
+    pub cnv-completed : let x = new r Conventional n c e o given bytes in
+        Completed (w .state .mount) (w .state .cnv) (w .state .seq) Conventional n x (replied (performIn w c o .succeeded) c x) (effectOf (w .state .mount) (w .state .cnv) (w .state .seq) answer)
+    cnv-completed = completed r Conventional n c e o given bytes (λ f. told f .long) (λ f. inside-fits stood (told f .shows))
 
-    invariant-cnv : Invariant v ks (settledIn w c (performIn w c o))
-    invariant-cnv = invariant-settled r Conventional n c e o (r .rows) (set (r .plain) n (new r Conventional n c e o)) (effect-fixes (w .mount) (w .cnv) (w .seq) (truthful (performIn w c o))) cnv-completed
-        (rw (cnv-completed .other Sequential (w .seq) kinds-differ) (r .listed))
+    invariant-cnv : Invariant v ks (settledIn w c (performIn w c o) answer)
+    unfolding engine.step
+    invariant-cnv = invariant-settled r Conventional n c e o given bytes (r .rows) (set (r .plain) n (new r Conventional n c e o given bytes)) (effect-fixes (w .state .mount) (w .state .cnv) (w .state .seq) answer) cnv-completed
+        (rw (cnv-completed .other Sequential (w .state .seq) kinds-differ) (r .listed))
         (alter (r .files) _ _ _ (start-kept _ _ _ c o) (length-kept _ _ _ c o) (file-kept _ _ _ c o) (λ s. stood .sound) (λ x a. absurd (kinds-differ (sym (stands .kind) ∙ a .kind))))
-        (listed-became (r .plainly) (known r Conventional n c e o) (cnv-completed .here))
-        (λ m h. set-keeps (λ x. Covers (w .mount .volume .block) (set (w .disk) (placeOf w c) (performIn w c o .zone)) x) noRow (r .plain) n m (new r Conventional n c e o)
-        (λ v. let q = plain-in-place (performIn w c o .succeeded) _ c _ _ in covers-same (q .0) (q .1) v) (covers-after r Conventional n c e o m h))
+        (listed-became (r .plainly) (known r Conventional n c e o given bytes) (cnv-completed .here))
+        (λ m h. set-keeps (λ x. Covers (w .state .mount .volume .block) (set (w .disk) (placeOf w c) (performIn w c o .zone)) x) noRow (r .plain) n m (new r Conventional n c e o given bytes)
+        (λ v. let q = plain-in-place (performIn w c o .succeeded) _ c _ _ in covers-same (q .0) (q .1) v) (covers-after r Conventional n c e o given bytes m h))
 
-invariant-doing : {v : Volume} {ks : List FileKind} {w : System} → Invariant v ks w → (o : Choice) → Invariant v ks (step w (doing o))
+-- a doing that is done, or whose bytes show the zone
+pub truthful-told : (w : System) (h : Held) → w .state .mount .outstanding ≡ Busy h → (o : Choice) (given : Bool) (bytes : List ℕ) → truthful w (doing o given bytes) ≡ true → Told w (h .command) o given bytes
+truthful-told w h e o given bytes t f =
+    let d = performIn w (h .command) o in
+    let u : truthfulBy (Busy h) w o given bytes ≡ true = subst (λ (x : Outstanding). truthfulBy x w o given bytes ≡ true) e t in
+    record-told given bytes (d .zone) (subst (λ (s : Bool). s || showsRecord given bytes (d .zone) ≡ true) f u)
+
+invariant-doing : {v : Volume} {ks : List FileKind} {w : System} → Invariant v ks w → (o : Choice) (given : Bool) (bytes : List ℕ) → truthful w (doing o given bytes) ≡ true → Invariant v ks (step w (doing o given bytes))
 unfolding step
-invariant-doing {v} {ks} {w} r o = by (w .mount .outstanding) refl
+invariant-doing {v} {ks} {w} r o given bytes t = by (w .state .mount .outstanding) refl
   where
-    busy : (k : FileKind) (n : ℕ) (c : Command) → w .mount .outstanding ≡ Busy (holdOf k n c) → Invariant v ks (settledIn w c (performIn w c o))
-    busy Sequential n c e = invariant-seq r n c o e
-    busy Conventional n c e = invariant-cnv r n c o e
+    busy : (k : FileKind) (n : ℕ) (c : Command) → w .state .mount .outstanding ≡ Busy (holdOf k n c) → Told w c o given bytes → Invariant v ks (settledIn w c (performIn w c o) (completionBy (performIn w c o .succeeded) given bytes))
+    busy Sequential n c e told = invariant-seq r n c o given bytes told e
+    busy Conventional n c e told = invariant-cnv r n c o given bytes told e
 
-    by : (x : Outstanding) → w .mount .outstanding ≡ x → Invariant v ks (doneBy x w o)
+    by : (x : Outstanding) → w .state .mount .outstanding ≡ x → Invariant v ks (doneBy x w o given bytes)
     by Idle e = r
-    by (Busy h) e = busy (h .kind) (h .number) (h .command) e
+    by (Busy h) e = busy (h .kind) (h .number) (h .command) e (truthful-told w h e o given bytes t)
 
 -- A STRAY COMPLETION.
 invariant-stray : {v : Volume} {ks : List FileKind} {w : System} → Invariant v ks w → (x : Completion) → Invariant v ks (step w (stray x))
-unfolding step
-invariant-stray {v} {ks} {w} r x = by (w .mount .outstanding) refl
+unfolding step engine.step
+invariant-stray {v} {ks} {w} r x = by (w .state .mount .outstanding) refl
   where
-    by : (y : Outstanding) → w .mount .outstanding ≡ y → Invariant v ks (strayBy y w x)
-    by Idle e = rw (effect-idle (w .mount) (w .cnv) (w .seq) x e) r
+    by : (y : Outstanding) → w .state .mount .outstanding ≡ y → Invariant v ks (strayBy y w x)
+    by Idle e = rw (effect-idle (w .state .mount) (w .state .cnv) (w .state .seq) x e) r
     by (Busy h) e = r
 
-pub invariant-step : {v : Volume} {ks : List FileKind} {w : System} → Invariant v ks w → (e : Event) → Invariant v ks (step w e)
-invariant-step r (call k n x) = invariant-call r k n x
-invariant-step r (mishap i e) = invariant-mishap r i e
-invariant-step r (doing o) = invariant-doing r o
-invariant-step r (stray x) = invariant-stray r x
+invariant-step : {v : Volume} {ks : List FileKind} {w : System} → Invariant v ks w → (e : Event) → truthful w e ≡ true → Invariant v ks (step w e)
+invariant-step r (call kind n x) t = invariant-call r kind n x
+invariant-step r (mishap i e) t = invariant-mishap r i e
+invariant-step r (doing o given bytes) t = invariant-doing r o given bytes t
+invariant-step r (stray x) t = invariant-stray r x
 
-pub invariant-run : {v : Volume} {ks : List FileKind} {w : System} → Invariant v ks w → (es : List Event) → Invariant v ks (run w es)
-unfolding run
-invariant-run r [] = r
-invariant-run r (e ∷ es) = invariant-run (invariant-step r e) es
+pub invariant-run : {v : Volume} {ks : List FileKind} {w : System} → Invariant v ks w → (es : List Event) → allTruthful w es ≡ true → Invariant v ks (run w es)
+unfolding run allTruthful
+invariant-run r [] t = r
+invariant-run {w = w} r (e ∷ es) t = invariant-run (invariant-step r e (and-left _ _ t)) es (and-right (truthful w e) _ t)

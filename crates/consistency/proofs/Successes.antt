@@ -21,11 +21,11 @@ use Rattle.types.proofs.Tests.{and-left, and-right}
 use Rattle.types.proofs.Blocks.{IsBlock, small, large}
 use Rattle.table.specs.Rows.{withSize}
 use Rattle.recovery.specs.Success.{sizeAfter, rowAfter}
-use Rattle.consistency.specs.Disk.{DiskZone, moved, allows, allowsBy, takesAt, flushes, advanced, pointerAfter}
+use Rattle.disk.specs.Disk.{DiskZone, moved, allows, allowsBy, takesAt, flushes, advanced, pointerAfter}
 use Rattle.consistency.specs.FileHistory.{FileHistory, lastSizeAt, updated, afterSuccess}
-use Rattle.consistency.proofs.Whole.{At, at-start, at-end, at-write, whole-size}
-use Rattle.consistency.proofs.Conditions.{healthy-is, healthy-known}
-use Rattle.consistency.proofs.SoundZone.{sound-moved}
+use Rattle.disk.proofs.Whole.{At, at-start, at-end, at-write, whole-size}
+use Rattle.disk.proofs.Conditions.{healthy-is, healthy-known}
+use Rattle.disk.proofs.SoundZone.{sound-moved}
 use Rattle.consistency.proofs.Shown.{writtenTo, fresh-size}
 use Rattle.consistency.proofs.Agrees.{Agrees, Live, live, size-last, row-last}
 use Rattle.consistency.proofs.Issued.{Issued, Placed}

@@ -9,7 +9,7 @@ use Rattle.types.specs.declared.Access.{Access}
 use Rattle.types.specs.declared.ErrorPolicy.{ErrorPolicy}
 use Rattle.types.specs.declared.ErrorPolicy.the-variants.{RemountRo, ZoneRo, ZoneOffline, Repair}
 use Rattle.types.specs.Predicates.{isHealthy, isReadOnly}
-use Rattle.consistency.specs.Disk.{DiskZone}
+use Rattle.disk.specs.Disk.{DiskZone}
 use Rattle.consistency.specs.FileHistory.{FileHistory}
 
 abbrev pub isZoneOffline : ErrorPolicy → Bool

@@ -1,25 +1,69 @@
 -- DEMAND 3, from bytes to bytes, and what stands beside it.
-use mathlib.Core.Bool.{true, cond}
-use mathlib.Core.List.{List, map}
+use mathlib.Core.Bool.{Bool, true, cond}
+use mathlib.Core.List.{List}
+use mathlib.Core.Logic.{_≢_}
 use mathlib.Core.Path.{_≡_}
 use Prim.Native.Nat.{ℕ, _<_}
 use lib.ListN.{length, getD}
 use Rattle.types.specs.declared.Row.{Row}
 use Rattle.types.specs.declared.Held.{Held}
+use Rattle.types.specs.declared.Call.{Call}
 use Rattle.types.specs.declared.Outstanding.the-variants.{Idle, Busy}
 use Rattle.types.specs.declared.ErrorPolicy.{ErrorPolicy}
+use Rattle.types.specs.Codes.{isKind, kindFrom}
+use Rattle.types.specs.Kinds.{filesOf}
 use Rattle.types.specs.Numbers.{mountNumber, answerNumber}
 use Rattle.table.specs.declared.Slot.the-variants.{Good}
 use Rattle.table.specs.Rows.{rowAt}
 use Rattle.options.specs.Options.{optionsOf}
-use Rattle.report.specs.Report.{encodeReport}
-use Rattle.mount.specs.Mount.{mountOutcome, policyOf}
-use Rattle.completion.specs.Completions.{effectOf}
-use Rattle.consistency.specs.Disk.{DiskZone, Choice, reported}
+use Rattle.mount.specs.Mount.{Mounting, mountOutcome, policyOf}
+use Rattle.completion.specs.Completions.{completionBy}
+use Rattle.engine.specs.Engine.{Step, Input}
+use Rattle.engine.specs.Engine as engine
+use Rattle.disk.specs.Disk.{DiskZone, noZone, Choice, diskRecord, diskReport}
+use Rattle.disk.specs.Shows.{showsRecord, shows}
 use Rattle.consistency.specs.FileHistory.{FileHistory}
-use Rattle.consistency.specs.Shows.{Shows}
-use Rattle.consistency.specs.System.{System, Event, run, mounted, zoneOf, historyOf, performIn, truthful}
+use Rattle.consistency.specs.System.{System, Event, doing, run, truthful, allTruthful, mounted, zoneOf, historyOf, performIn}
 use Rattle.consistency.specs.Claim.{AsPromised}
+
+-- ---- a list for demand 3
+
+-- "A list for demand 3 starts from a mount answered 0, with the disk as its report says."
+pub record Start (block : ℕ) (superblock options report cnv seq : List ℕ) (disk : List DiskZone) : Type 0 where
+  pub answer : mountNumber (mountOutcome block superblock options report cnv seq .answer) ≡ 0
+  pub shown : shows report disk ≡ true
+
+-- the mount's arguments, the disk, and the entries
+pub record History : Type 0 where
+  pub block : ℕ
+  pub superblock : List ℕ
+  pub options : List ℕ
+  pub report : List ℕ
+  pub cnv : List ℕ
+  pub seq : List ℕ
+  pub disk : List DiskZone
+  pub events : List Event
+  pub start : Start block superblock options report cnv seq disk
+  pub honest : allTruthful (mounted (mountOutcome block superblock options report cnv seq) disk) events ≡ true
+
+-- the system after it
+abbrev pub after : History → System
+after h =
+    run (mounted (mountOutcome (h .block) (h .superblock) (h .options) (h .report) (h .cnv) (h .seq)) (h .disk)) (h .events)
+
+-- ---- the claim
+
+-- "Fresh mount: the same arguments with other tables as long, and a report that shows each zone's pointer and condition now."
+pub record Fresh (h : History) : Type 0 where
+  pub report : List ℕ
+  pub cnv : List ℕ
+  pub seq : List ℕ
+  pub shown : shows report (after h .disk) ≡ true
+  pub cnvLong : length cnv ≡ length (h .cnv)
+  pub seqLong : length seq ≡ length (h .seq)
+
+abbrev pub freshMount : (h : History) → Fresh h → Mounting
+freshMount h f = mountOutcome (h .block) (h .superblock) (h .options) (f .report) (f .cnv) (f .seq)
 
 -- row n of the words `now` compares with row n of the words `fresh` as promised
 pub record Compares (p : ErrorPolicy) (h : FileHistory) (z : DiskZone) (fresh now : List ℕ) (n : ℕ) : Type 0 where
@@ -29,53 +73,68 @@ pub record Compares (p : ErrorPolicy) (h : FileHistory) (z : DiskZone) (fresh no
   pub there : rowAt fresh n ≡ Good other
   pub promised : AsPromised p h z other row
 
--- "A list for demand 3 starts from a mount answered 0, with the disk as its report says."
-pub record Start (block : ℕ) (superblock options report cnv seq : List ℕ) (disk : List DiskZone) : Type 0 where
-  pub answer : mountNumber (mountOutcome block superblock options report cnv seq .answer) ≡ 0
-  pub shows : Shows report disk
-
--- "Fresh mount: the same arguments with other tables as long, and a report that shows each zone's pointer and condition now."
-pub record Consistent (block : ℕ) (superblock options report cnv seq : List ℕ) (s : System) : Type 0 where
-  pub answer : mountNumber (mountOutcome block superblock options report cnv seq .answer) ≡ 0
-  pub files : mountOutcome block superblock options report cnv seq .mount .volume .sequential ≡ s .mount .volume .sequential
-  pub rows : (n : ℕ) → n < s .mount .volume .sequential → historyOf s n .quiet ≡ true
-      → Compares (policyOf (optionsOf options)) (historyOf s n) (zoneOf s n) (mountOutcome block superblock options report cnv seq .seq) (s .seq) n
-
-module _ (block : ℕ) (superblock options report cnv seq : List ℕ) (disk : List DiskZone) (events : List Event) where
-  -- the system after a list of events
-  abbrev pub after : System
-  after = run (mounted (mountOutcome block superblock options report cnv seq) disk) events
+-- what a system s and a fresh mount o under an option have in common
+pub record Consistent (p : ErrorPolicy) (s : System) (o : Mounting) : Type 0 where
+  pub answer : mountNumber (o .answer) ≡ 0
+  pub files : o .mount .volume .sequential ≡ s .state .mount .volume .sequential
+  pub rows : (n : ℕ) → n < s .state .mount .volume .sequential → historyOf s n .quiet ≡ true → Compares p (historyOf s n) (zoneOf s n) (o .seq) (s .state .seq) n
 
 -- DEMAND 3: "a single claim about the whole list". With nothing outstanding, every fresh mount is answered 0, and every quiet seq file's
 -- row compares with its row there as promised.
 unfoldable pub Demand3 : Type 0
 Demand3 =
-    (block : ℕ) (superblock options report cnv seq : List ℕ) (disk : List DiskZone) → Start block superblock options report cnv seq disk
-    → (events : List Event) → after block superblock options report cnv seq disk events .mount .outstanding ≡ Idle
-    → (report′ cnv′ seq′ : List ℕ) → Shows report′ (after block superblock options report cnv seq disk events .disk)
-    → length cnv′ ≡ length cnv → length seq′ ≡ length seq
-    → Consistent block superblock options report′ cnv′ seq′ (after block superblock options report cnv seq disk events)
+    (h : History) → after h .state .mount .outstanding ≡ Idle → (f : Fresh h) → Consistent (policyOf (optionsOf (h .options))) (after h) (freshMount h f)
 
--- ---- beside it
+-- ---- beside it: nothing in it is empty
 
--- the disk's own report
-abbrev pub diskReport : List DiskZone → List ℕ
-diskReport disk = encodeReport (map reported disk)
+-- every mount answered 0 has a disk that its report shows
+unfoldable pub AlwaysStarted : Type 0
+AlwaysStarted =
+    (block : ℕ) (superblock options report cnv seq : List ℕ) → mountNumber (mountOutcome block superblock options report cnv seq .answer) ≡ 0
+    → (disk : List DiskZone) × Start block superblock options report cnv seq disk
 
--- It is one of bytes, and shows the disk as it is. So a fresh mount can always be made.
+-- the disk's own report is one of bytes, and shows the disk as it is: a fresh mount can always be made
 pub record Reported (disk : List DiskZone) : Type 0 where
   pub bytes : (i : ℕ) → getD (diskReport disk) i 0 < 256
-  pub shows : Shows (diskReport disk) disk
+  pub shown : shows (diskReport disk) disk ≡ true
 
 unfoldable pub AlwaysReported : Type 0
-AlwaysReported =
-    (block : ℕ) (superblock options report cnv seq : List ℕ) (disk : List DiskZone) → Start block superblock options report cnv seq disk
-    → (events : List Event) → Reported (after block superblock options report cnv seq disk events .disk)
+AlwaysReported = (h : History) → Reported (after h .disk)
 
--- And the completion of an outstanding command, whatever the disk does with it, is answered 0 or 7, never 8, 9 or 10.
-unfoldable pub AlwaysCompleted : Type 0
-AlwaysCompleted =
-    (block : ℕ) (superblock options report cnv seq : List ℕ) (disk : List DiskZone) → Start block superblock options report cnv seq disk
-    → (events : List Event) (h : Held) → let s = after block superblock options report cnv seq disk events in s .mount .outstanding ≡ Busy h
-    → (o : Choice) → let done = performIn s (h .command) o in
-    answerNumber (effectOf (s .mount) (s .cnv) (s .seq) (truthful done) .outcome .answer) ≡ cond (done .succeeded) 0 7
+-- and so is a zone's own record, with the flag "capacity given": every zone can be reported truthfully
+pub record Recorded (z : DiskZone) : Type 0 where
+  pub bytes : (i : ℕ) → getD (diskRecord z) i 0 < 256
+  pub shown : showsRecord true (diskRecord z) z ≡ true
+
+-- of every zone, and whatever the disk does with an outstanding command
+pub record Recordable (s : System) : Type 0 where
+  pub zones : (i : ℕ) → i < length (s .disk) → Recorded (getD (s .disk) i noZone)
+  pub doings : (h : Held) → s .state .mount .outstanding ≡ Busy h → (o : Choice) → Recorded (performIn s (h .command) o .zone)
+
+unfoldable pub AlwaysRecorded : Type 0
+AlwaysRecorded = (h : History) → Recordable (after h)
+
+-- ---- beside it: what is answered on the way
+
+-- what is replied to the completion of a command that the disk did
+abbrev pub digested : System → Held → Choice → Bool → List ℕ → Step
+digested s h o given bytes = engine.step (s .state) (Input.completion (completionBy (performIn s (h .command) o .succeeded) given bytes))
+
+-- it is answered 0 if the command was done and 7 if it failed, never 8, 9 or 10, and the command is no longer held
+pub record Digested (s : System) (h : Held) (o : Choice) (given : Bool) (bytes : List ℕ) : Type 0 where
+  pub number : answerNumber (digested s h o given bytes .reply) ≡ cond (performIn s (h .command) o .succeeded) 0 7
+  pub idle : digested s h o given bytes .state .mount .outstanding ≡ Idle
+
+-- whatever the disk does with an outstanding command, and truthfully reports of it
+unfoldable pub AlwaysDigested : Type 0
+AlwaysDigested =
+    (h : History) (c : Held) → after h .state .mount .outstanding ≡ Busy c
+    → (o : Choice) (given : Bool) (bytes : List ℕ) → truthful (after h) (doing o given bytes) ≡ true → Digested (after h) c o given bytes
+
+-- a call on the file of a kind's number and a number is never answered 10, and never 1 where the file exists
+pub record Answered (s : System) (kind n : ℕ) (x : Call) : Type 0 where
+  pub possible : answerNumber (engine.step (s .state) (Input.call kind n x) .reply) ≢ 10
+  pub found : isKind kind ≡ true → n < filesOf (kindFrom kind) (s .state .mount .volume) → answerNumber (engine.step (s .state) (Input.call kind n x) .reply) ≢ 1
+
+unfoldable pub AlwaysAnswered : Type 0
+AlwaysAnswered = (h : History) (kind n : ℕ) (x : Call) → Answered (after h) kind n x

@@ -7,9 +7,9 @@ use Rattle.types.specs.declared.Command.{Command}
 use Rattle.types.specs.declared.CommandKind.{CommandKind}
 use Rattle.types.specs.Codes.{conditionCode}
 use Rattle.types.specs.Commands.{isRead}
-use Rattle.types.specs.Predicates.{isHealthy, isReadOnly}
+use Rattle.types.specs.Predicates.{means, isHealthy, isReadOnly}
 use Rattle.files.specs.Files.{seqRow}
-use Rattle.consistency.specs.Disk.{DiskZone, reported}
+use Rattle.disk.specs.Disk.{DiskZone, hasPointer, reported}
 
 pub record FileHistory : Type 0 where
   -- "no mishap in its zone since mount or the last completion there that answered an outstanding command and was other than a good read"
@@ -31,9 +31,9 @@ atMount z = record { quiet = true; lastSize = freshSize z; recovered = false; re
 
 -- ---- what events change of it; a call changes nothing
 
--- a fall of no block, or a harm already done, is no mishap
+-- a fall of no block, a harm already done, and the fall of a pointer that means nothing are no mishap
 unfoldable pub unmoved : DiskZone → DiskZone → Bool
-unmoved z new = eqb (z .pointer) (new .pointer) && eqb (conditionCode (z .condition)) (conditionCode (new .condition))
+unmoved z new = eqb (conditionCode (z .condition)) (conditionCode (new .condition)) && means (hasPointer z) (eqb (z .pointer) (new .pointer))
 
 -- a mishap made z `new`
 unfoldable pub afterMishap : FileHistory → DiskZone → DiskZone → FileHistory

@@ -1,9 +1,5 @@
-pub mod Disk
 pub mod FileHistory
-pub mod Shows
 pub mod System
 pub mod Claim
 pub mod Demand
 pub mod Frame
-pub mod Cases
-pub mod Runs

@@ -18,10 +18,11 @@ use Rattle.types.proofs.PredicateLaws.{conventional-is}
 use Rattle.zones.specs.declared.Zone.{Zone}
 use Rattle.zones.specs.Zone.{conventional, sequential, healthy, conditionOf, conventionalCondition, sequentialCondition, pointsWell, goodRecord}
 use Rattle.zones.proofs.Laws.{GoodRecord, record-told}
-use Rattle.consistency.specs.Disk.{DiskZone, Mishap, moved, struck, reported, typeByte, healthyByte, conditionByte}
-use Rattle.consistency.specs.Shows.{ShowsZone, showsKind, showsHealthy, showsCondition}
-use Rattle.consistency.proofs.Whole.{At, at-fall}
-use Rattle.consistency.proofs.Conditions.{healthy-is, healthy-before}
+use Rattle.disk.specs.Disk.{DiskZone, Mishap, moved, struck, reported, typeByte, healthyByte, conditionByte}
+use Rattle.disk.specs.Shows.{showsKind, showsHealthy, showsCondition}
+use Rattle.disk.specs.Facts.{ShowsZone}
+use Rattle.disk.proofs.Whole.{At, at-fall}
+use Rattle.disk.proofs.Conditions.{healthy-is, sequential-is, healthy-before}
 
 -- what good input says of a zone
 pub record SoundZone (b : ℕ) (z : DiskZone) : Type 0 where
@@ -111,10 +112,6 @@ full-by Sequential z n q e = by (byte-of n (eqb (z .pointer) (z .start + z .capa
     by four = refl
     by (end f) = f
 
-sequential-is : (k : FileKind) → isConventional k ≡ false → k ≡ Sequential
-sequential-is Conventional e = cc
-sequential-is Sequential e = refl
-
 module _ {r : Zone} {z : DiskZone} (w : ShowsZone r z) where
   pub says-conventional : conventional r ≡ isConventional (z .kind)
   says-conventional = number-kind (r .kind) (z .kind) (shown-kind (z .kind) r (w .kind)) .0
@@ -162,7 +159,7 @@ record-good {b} {r} {z} w s = good-made (record {
 
     points : sequential r ≡ true → healthy r ≡ true → pointsWell (b / 512) r ≡ true
     points e h =
-        let k : z .kind ≡ Sequential = sequential-is (z .kind) (not-true _ (sym (says-sequential w) ∙ e)) in
+        let k : z .kind ≡ Sequential = sequential-is (z .kind) (sym (says-sequential w) ∙ e) in
         let c : z .condition ≡ Healthy = healthy-is (z .condition) (sym (says-healthy w) ∙ h) in
         let p = w .pointer k c in
         let at = s .point k c in

@@ -4,7 +4,7 @@ use mathlib.Core.Path.{_≡_}
 use Prim.Native.Nat.{ℕ, _+_, _-_, _*_, _/_, _%_, _≤_, min, max}
 use native.Mathlib.Omega.{arith}
 use Rattle.types.proofs.Blocks.{IsBlock, small, large}
-use Rattle.consistency.specs.Disk.{DiskZone}
+use Rattle.disk.specs.Disk.{DiskZone}
 
 -- p lies in start..start+capacity on a block
 pub record At (b : ℕ) (z : DiskZone) (p : ℕ) : Type 0 where

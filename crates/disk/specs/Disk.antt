@@ -1,8 +1,9 @@
--- The disk's rules, on one zone: which commands it does, what they move, and what can befall it. Numbers of a zone are in sectors of
--- 512 bytes, those of a command and the block `b` in bytes.
+-- The disk's rules: which commands a zone does, what they move, what can befall it, and how it is reported. Numbers of a zone are in
+-- sectors of 512 bytes, those of a command and the block `b` in bytes.
 use mathlib.Core.Bool.{Bool, true, false, not, cond, _&&_}
-use Prim.Native.Nat.{ℕ, _+_, _-_, _*_, _/_, min, max}
-use lib.Dec.{eqb}
+use mathlib.Core.List.{List, [], _∷_, map}
+use Prim.Native.Nat.{ℕ, suc, _+_, _-_, _*_, _/_, min, max}
+use lib.Dec.{eqb, ltb}
 use Rattle.types.specs.declared.FileKind.{FileKind}
 use Rattle.types.specs.declared.FileKind.the-variants.{Conventional, Sequential}
 use Rattle.types.specs.declared.Condition.{Condition}
@@ -12,8 +13,10 @@ use Rattle.types.specs.declared.Movement.{Movement}
 use Rattle.types.specs.declared.Movement.the-variants.{Stays, Advances, ToStart, ToEnd}
 use Rattle.types.specs.Blocks.{sectorBytes, bytesOf, blockSectors}
 use Rattle.types.specs.Commands.{movementOf, isRead}
-use Rattle.types.specs.Predicates.{isHealthy, isOffline}
+use Rattle.types.specs.Predicates.{isConventional, isHealthy, isOffline}
 use Rattle.zones.specs.declared.Zone.{Zone}
+use Rattle.zones.specs.Zone.{encodeZone}
+use Rattle.report.specs.Report.{encodeReport}
 
 -- a zone as the disk has it; `Zone` is a record of one
 pub record DiskZone : Type 0 where
@@ -24,10 +27,23 @@ pub record DiskZone : Type 0 where
   pub pointer : ℕ
   pub condition : Condition
 
+-- only in a healthy sequential zone does the pointer mean something
+abbrev pub hasPointer : DiskZone → Bool
+hasPointer z = isHealthy (z .condition) && not (isConventional (z .kind))
+
 -- the zone with another pointer and condition: nothing else ever moves
 unfoldable pub moved : DiskZone → ℕ → Condition → DiskZone
 moved z pointer condition =
     record { kind = z .kind; start = z .start; length = z .length; capacity = z .capacity; pointer = pointer; condition = condition }
+
+-- what is given of a zone that the disk doesn't have
+abbrev pub noZone : DiskZone
+noZone = record { kind = Conventional; start = 0; length = 0; capacity = 0; pointer = 0; condition = Offline }
+
+-- the number of "the zone at its address": the first that ends above it
+unfoldable pub zoneHolding : List DiskZone → ℕ → ℕ
+zoneHolding [] address = 0
+zoneHolding (z ∷ zs) address = cond (ltb address (bytesOf (z .start + z .length))) 0 (suc (zoneHolding zs address))
 
 -- ---- mishaps
 
@@ -122,7 +138,7 @@ performedBy false b quiet z c o =
 unfoldable pub perform : ℕ → Bool → DiskZone → Command → Choice → Performed
 perform b quiet z c o = performedBy (allows quiet z c && not (o .fails)) b quiet z c o
 
--- ---- "A failed command reports the zone at its address truthfully afterwards."
+-- ---- how the disk reports a zone: one way of many to show it (`Shows.antt`)
 
 -- type 1 is conventional, 2 and 3 are sequential
 abbrev pub typeByte : FileKind → ℕ
@@ -140,7 +156,7 @@ conditionByte Healthy z = healthyByte (z .kind) z
 conditionByte ReadOnly z = 13
 conditionByte Offline z = 15
 
--- the zone's record, as the disk reports it
+-- the zone's record
 unfoldable pub reported : DiskZone → Zone
 reported z =
     record {
@@ -151,3 +167,10 @@ reported z =
       condition = conditionByte (z .condition) z;
       capacity = z .capacity;
     }
+
+-- its 64 bytes, and the report of all zones
+abbrev pub diskRecord : DiskZone → List ℕ
+diskRecord z = encodeZone (reported z)
+
+abbrev pub diskReport : List DiskZone → List ℕ
+diskReport zs = encodeReport (map reported zs)

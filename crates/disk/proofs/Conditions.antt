@@ -1,16 +1,18 @@
 -- Conditions: equal where their codes are, worse after a harm, never better.
 -- Assumes nothing.
-use mathlib.Core.Bool.{Bool, true, false, cond}
+use mathlib.Core.Bool.{Bool, true, false, not, cond}
 use mathlib.Core.Path.{_≡_, refl, sym, ap, _∙_}
 use Prim.Native.Nat.{ℕ, _≤_}
 use native.Mathlib.Omega.{arith}
 use lib.Dec.{leb, eqb}
 use borrow.Author.Tests.{leb-true, eqb-true, le-leb}
+use Rattle.types.specs.declared.FileKind.{FileKind}
+use Rattle.types.specs.declared.FileKind.the-variants.{Conventional, Sequential}
 use Rattle.types.specs.declared.Condition.{Condition}
 use Rattle.types.specs.declared.Condition.the-variants.{Healthy, ReadOnly, Offline}
 use Rattle.types.specs.Codes.{conditionCode}
-use Rattle.types.specs.Predicates.{isHealthy}
-use Rattle.consistency.specs.Disk.{Harm, none, toReadOnly, toOffline, worsened}
+use Rattle.types.specs.Predicates.{isConventional, isHealthy}
+use Rattle.disk.specs.Disk.{Harm, none, toReadOnly, toOffline, worsened}
 
 -- "its condition may not be better than a seq row's": h is not better than c
 abbrev pub notBetter : Condition → Condition → Bool
@@ -20,6 +22,10 @@ pub healthy-is : (h : Condition) → isHealthy h ≡ true → h ≡ Healthy
 healthy-is Healthy e = refl
 healthy-is ReadOnly e = cc
 healthy-is Offline e = cc
+
+pub sequential-is : (k : FileKind) → not (isConventional k) ≡ true → k ≡ Sequential
+sequential-is Conventional e = cc
+sequential-is Sequential e = refl
 
 abbrev fromCode : ℕ → Condition
 fromCode n = cond (eqb n 0) Healthy (cond (eqb n 1) ReadOnly Offline)

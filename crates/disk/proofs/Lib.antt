@@ -1,0 +1,4 @@
+pub mod Whole
+pub mod Conditions
+pub mod Shows
+pub mod SoundZone

@@ -1,0 +1,3 @@
+pub mod Disk
+pub mod Facts
+pub mod Shows
