@@ -1,7 +1,7 @@
 -- Demand 3 holds, and what stands beside it.
 -- Assumes nothing.
 use mathlib.Core.Bool.{Bool, true, false, cond}
-use mathlib.Core.List.{List}
+use mathlib.Core.List.{List, map}
 use mathlib.Core.Path.{_≡_, refl, sym, ap, _∙_, subst}
 use Prim.Native.Nat.{ℕ, suc, _<_}
 use native.Mathlib.Omega.{arith}
@@ -28,20 +28,22 @@ use Rattle.engine.specs.Engine as engine
 use Rattle.disk.specs.Disk.{DiskZone}
 use Rattle.disk.specs.Facts.{Shows, ShowsZones}
 use Rattle.disk.specs.Facts as shows
-use Rattle.disk.proofs.Shows.{shows-told, report-shows}
+use Rattle.disk.proofs.Shows.{shows-told, report-shows, record-shows}
+use Rattle.disk.proofs.SoundZone.{SoundZone}
+use Rattle.disk.proofs.Reported.{record-shown, record-small, sound-at, disk-shown, report-bytes}
+use Rattle.disk.proofs.Found.{zoneFound, zones-found}
 use Rattle.consistency.specs.System.{System, Event, run, allTruthful, mounted, zoneOf, historyOf, performIn}
 use Rattle.consistency.specs.Claim.{AsPromised}
-use Rattle.consistency.specs.Demand.{Compares, Start, History, after, Fresh, freshMount, Consistent, Demand3, AlwaysReported, Digested, AlwaysDigested}
+use Rattle.consistency.specs.Demand.{Compares, Start, History, after, Fresh, freshMount, Consistent, Demand3, AlwaysStarted, AlwaysReported, Recorded, AlwaysRecorded, Digested, AlwaysDigested}
 use Rattle.consistency.proofs.Shown.{shownRow}
 use Rattle.consistency.proofs.Promised.{promised}
 use Rattle.consistency.proofs.Bridge.{noRow, fill-listed}
-use Rattle.consistency.proofs.Files.{kinds}
+use Rattle.consistency.proofs.Files.{files-sound, kinds}
 use Rattle.consistency.proofs.Effects.{holdOf}
-use Rattle.consistency.proofs.Steps.{Invariant, invariant-run, new, Told, truthful-told, seq-completed, cnv-completed, replied}
+use Rattle.consistency.proofs.Steps.{Invariant, invariant-run, new, Told, truthful-told, performed-sound, seq-completed, cnv-completed, replied}
 use Rattle.consistency.proofs.Mounts.{cnvs, seqs, Accepts, accepts, leaves, mount-leaves}
 use Rattle.consistency.proofs.Start.{files-start, covers-start, covers-nth}
 use Rattle.consistency.proofs.Fresh.{all-good, seq-count, file-shown, cnv-count}
-use Rattle.consistency.proofs.Report.{disk-shown, report-bytes}
 
 module _ (block : ℕ) (superblock options report cnv seq : List ℕ) where
   -- the system that it leaves
@@ -181,5 +183,25 @@ always-reported h =
     let frame = framed (h .report) (shown h .header) in
     record {
       bytes = report-bytes (after h .disk);
-      shown = report-shows (disk-shown (r .files) (omega (arith, same, frame .some)) (omega (arith, same, frame .few)));
+      shown = report-shows (disk-shown (files-sound (r .files)) (omega (arith, same, frame .some)) (omega (arith, same, frame .few)));
     }
+
+-- A RECORD that shows a zone
+recorded : {b : ℕ} {z : DiskZone} → SoundZone b z → Recorded z
+recorded {z = z} s = record { bytes = record-small z; shown = record-shows (record-shown s) }
+
+pub always-recorded : AlwaysRecorded
+unfolding AlwaysRecorded
+always-recorded h = record {
+  zones = λ i l. recorded (sound-at (files-sound (invariant h .files)) i l);
+  doings = λ c e o. recorded (performed-sound (invariant h) (c .kind) (c .number) (c .command) o e);
+}
+
+-- A DISK that a mount's report shows
+pub always-started : AlwaysStarted
+unfolding AlwaysStarted
+always-started block superblock options report cnv seq zeroed =
+    let t = accepts block superblock options report cnv seq zeroed in
+    let good = report-told (blockSectors block) report (t .report) in
+    let shown = zones-found (blockSectors block) 0 (zonesOf report) (good .zones) in
+    (map zoneFound (zonesOf report), record { answer = zeroed; shown = report-shows (record { header = good .header; zones = shown }) })

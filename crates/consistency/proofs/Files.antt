@@ -19,6 +19,7 @@ use Rattle.disk.specs.Disk.{DiskZone, moved, noZone, zoneHolding}
 use Rattle.consistency.specs.FileHistory.{FileHistory}
 use Rattle.consistency.specs.System.{noHistory, holdsSeqFile}
 use Rattle.disk.proofs.SoundZone.{SoundZone, sound-moved}
+use Rattle.disk.proofs.Reported.{AllSound}
 use Rattle.consistency.proofs.Agrees.{Agrees}
 use Rattle.consistency.proofs.Bridge.{noRow}
 
@@ -30,6 +31,11 @@ pub data Files (b : ℕ) (p : ErrorPolicy) : ℕ → List DiskZone → List File
       → z .start ≡ at → holdsSeqFile z ≡ false → SoundZone b z → Files b p (at + z .length) zs ss rs k → Files b p at (z ∷ zs) (s ∷ ss) rs k
   file : {at : ℕ} {z : DiskZone} {s : FileHistory} {r : Row} {zs : List DiskZone} {ss : List FileHistory} {rs : List Row} {k : ℕ}
       → z .start ≡ at → Agrees b p z s r → Files b p (at + z .length) zs ss rs k → Files b p at (z ∷ zs) (s ∷ ss) (r ∷ rs) (suc k)
+
+pub files-sound : {b : ℕ} {p : ErrorPolicy} {at : ℕ} {zs : List DiskZone} {ss : List FileHistory} {rs : List Row} {k : ℕ} → Files b p at zs ss rs k → AllSound b zs
+files-sound none = AllSound.none
+files-sound (other e f s t) = AllSound.next s (files-sound t)
+files-sound (file e a t) = AllSound.next (a .sound) (files-sound t)
 
 above : {b : ℕ} {p : ErrorPolicy} {at : ℕ} {zs : List DiskZone} {ss : List FileHistory} {rs : List Row} {k : ℕ} → Files b p at zs ss rs k → (n : ℕ) → n < k → at ≤ getD rs n noRow .start
 above none n h = omega arith

@@ -18,4 +18,3 @@ pub mod Mounts
 pub mod Start
 pub mod Fresh
 pub mod Demand
-pub mod Report

@@ -43,7 +43,7 @@ use Rattle.held.specs.Facts.{Ready}
 use Rattle.held.proofs.Issuable.{issuable-complete}
 use Rattle.completion.specs.Completions.{Completion, failed, completionOf, completionBy, effectOf}
 use Rattle.completion.proofs.Laws.{effect-idle, effect-fixes}
-use Rattle.disk.specs.Disk.{DiskZone, Mishap, Choice, Performed, moved, worsened, fallen, struck, perform, performedBy, allows, noZone}
+use Rattle.disk.specs.Disk.{DiskZone, Mishap, Choice, Performed, reported, moved, worsened, fallen, struck, perform, performedBy, allows, noZone}
 use Rattle.consistency.specs.FileHistory.{FileHistory}
 use Rattle.engine.specs.Engine.{Step, applied}
 use Rattle.engine.specs.Engine as engine
@@ -52,7 +52,7 @@ use Rattle.engine.proofs.Laws.{call-steps}
 use Rattle.disk.specs.Shows.{showsRecord}
 use Rattle.disk.proofs.Shows.{Recorded, record-told}
 use Rattle.consistency.specs.System.{System, holdsSeqFile, Event, call, mishap, doing, stray, placeOf, performIn, settledIn, doneBy, strayBy, step, run, truthfulBy, truthful, allTruthful}
-use Rattle.disk.proofs.SoundZone.{sound-struck}
+use Rattle.disk.proofs.SoundZone.{SoundZone, sound-struck, reported-shows}
 use Rattle.consistency.proofs.Mishaps.{keeps-mishap}
 use Rattle.consistency.proofs.Issued.{Within, Issued, issuable-tells}
 use Rattle.consistency.proofs.Doings.{completedRow, keeps-command}
@@ -181,16 +181,9 @@ failure-told given bytes e = rw (eq-eqb _ _ e)
 abbrev pub replied : Bool → Command → Row → Answer
 replied t c r = cond t (Done (c .length)) (Refused (refusal.Failed (r .size)))
 
-module _ {v : Volume} {ks : List FileKind} {w : System} (r : Invariant v ks w) (k : FileKind) (n : ℕ) (c : Command) (e : w .state .mount .outstanding ≡ Busy (holdOf k n c)) (o : Choice)
-    (given : Bool) (bytes : List ℕ) where
+module _ {v : Volume} {ks : List FileKind} {w : System} (r : Invariant v ks w) (k : FileKind) (n : ℕ) (c : Command) (e : w .state .mount .outstanding ≡ Busy (holdOf k n c)) where
   abbrev row : Row
   row = getD (ofKind k (r .plain) (r .rows)) n noRow
-
-  abbrev done : Performed
-  done = performIn w c o
-
-  abbrev pub new : Row
-  new = completedRow k (done .succeeded) (w .state .mount .volume .policy) c (zoneAt given bytes 0) row
 
   hold : Holding (w .state .mount) (w .state .cnv) (w .state .seq) (holdOf k n c)
   hold = subst (λ (x : Outstanding). Holds x (w .state .mount) (w .state .cnv) (w .state .seq)) e (r .held)
@@ -214,88 +207,107 @@ module _ {v : Volume} {ks : List FileKind} {w : System} (r : Invariant v ks w) (
   pub lies : Within row (c .address)
   lies = issue .within (reached-sound (w .state .mount .volume) (w .state .cnv) (w .state .seq) k n row (ready .reached) .roomy)
 
-  -- the completion is answered by the count or by 7, and leaves the row that the disk's doing asks for
-  pub completed : (done .succeeded ≡ false → length bytes ≡ zoneBytes) → (done .succeeded ≡ false → recordFits (w .state .mount .volume .block) k row (zoneAt given bytes 0) ≡ true)
-      → Completed (w .state .mount) (w .state .cnv) (w .state .seq) k n new (replied (done .succeeded) c new) (effectOf (w .state .mount) (w .state .cnv) (w .state .seq) (completionBy (done .succeeded) given bytes))
-  completed long fits = by (done .succeeded) long fits
-    where
-      by : (t : Bool) → (t ≡ false → length bytes ≡ zoneBytes) → (t ≡ false → recordFits (w .state .mount .volume .block) k row (zoneAt given bytes 0) ≡ true)
-          → let x = completedRow k t (w .state .mount .volume .policy) c (zoneAt given bytes 0) row in
-          Completed (w .state .mount) (w .state .cnv) (w .state .seq) k n x (replied t c x) (effectOf (w .state .mount) (w .state .cnv) (w .state .seq) (completionBy t given bytes))
-      by true long fits = good-completed (w .state .mount) (w .state .cnv) (w .state .seq) k n c row ready
-      by false long fits = rw (failure-told given bytes (long refl)) (failed-completed (w .state .mount) (w .state .cnv) (w .state .seq) k n c row ready (zoneAt given bytes 0) (fits refl))
+  module _ (o : Choice) where
+    abbrev done : Performed
+    done = performIn w c o
 
-  zones-after : kinds (set (w .disk) (placeOf w c) (done .zone)) ≡ ks
-  zones-after = performed-moved (λ x. kinds (set (w .disk) (placeOf w c) x) ≡ ks) _ _ _ c o (λ to h. kinds-set (w .disk) (placeOf w c) to h ∙ r .zones)
+    zones-after : kinds (set (w .disk) (placeOf w c) (done .zone)) ≡ ks
+    zones-after = performed-moved (λ x. kinds (set (w .disk) (placeOf w c) x) ≡ ks) _ _ _ c o (λ to h. kinds-set (w .disk) (placeOf w c) to h ∙ r .zones)
 
-  pub covers-after : (m : ℕ) → m < w .state .mount .volume .conventional → Covers (w .state .mount .volume .block) (set (w .disk) (placeOf w c) (done .zone)) (getD (r .plain) m noRow)
-  covers-after m h = performed-moved (λ x. Covers (w .state .mount .volume .block) (set (w .disk) (placeOf w c) x) (getD (r .plain) m noRow)) _ _ _ c o (λ to x. covers-set (w .disk) (placeOf w c) to x (r .covers m h))
+    pub covers-after : (m : ℕ) → m < w .state .mount .volume .conventional → Covers (w .state .mount .volume .block) (set (w .disk) (placeOf w c) (done .zone)) (getD (r .plain) m noRow)
+    covers-after m h = performed-moved (λ x. Covers (w .state .mount .volume .block) (set (w .disk) (placeOf w c) x) (getD (r .plain) m noRow)) _ _ _ c o (λ to x. covers-set (w .disk) (placeOf w c) to x (r .covers m h))
 
-  -- what the completion leaves has the invariant, with these rows of the seq files and of the cnv files
-  pub invariant-settled : {d : Effect} {a : Answer} {ss : List FileHistory} (rows plain : List Row) → let vol = w .state .mount .volume in let disk = set (w .disk) (placeOf w c) (done .zone) in
-      d .outcome .mount .volume ≡ vol → Completed (w .state .mount) (w .state .cnv) (w .state .seq) k n new a d
-      → Listed (stored Sequential (d .store) (w .state .seq)) rows (vol .sequential) → Files (vol .block) (vol .policy) 0 disk ss rows (vol .sequential)
-      → Listed (stored Conventional (d .store) (w .state .cnv)) plain (vol .conventional) → ((m : ℕ) → m < vol .conventional → Covers (vol .block) disk (getD plain m noRow))
-      → Invariant v ks (record { state = applied (w .state) d; disk = disk; histories = ss })
-  invariant-settled {d} rows plain u g listed files plainly covers =
-      record {
-        same = u ∙ r .same;
-        block = rw u (r .block);
-        zones = zones-after;
-        rows = rows;
-        listed = rw u listed;
-        files = rw u files;
-        plain = plain;
-        plainly = rw u plainly;
-        covers = rw u covers;
-        held = subst (λ (x : Outstanding). Holds x (d .outcome .mount) (stored Conventional (d .store) (w .state .cnv)) (stored Sequential (d .store) (w .state .seq))) (sym (g .idle)) tt;
-      }
+    module _ (given : Bool) (bytes : List ℕ) where
+      abbrev pub new : Row
+      new = completedRow k (done .succeeded) (w .state .mount .volume .policy) c (zoneAt given bytes 0) row
+
+      -- the completion is answered by the count or by 7, and leaves the row that the disk's doing asks for
+      pub completed : (done .succeeded ≡ false → length bytes ≡ zoneBytes) → (done .succeeded ≡ false → recordFits (w .state .mount .volume .block) k row (zoneAt given bytes 0) ≡ true)
+          → Completed (w .state .mount) (w .state .cnv) (w .state .seq) k n new (replied (done .succeeded) c new) (effectOf (w .state .mount) (w .state .cnv) (w .state .seq) (completionBy (done .succeeded) given bytes))
+      completed long fits = by (done .succeeded) long fits
+        where
+          by : (t : Bool) → (t ≡ false → length bytes ≡ zoneBytes) → (t ≡ false → recordFits (w .state .mount .volume .block) k row (zoneAt given bytes 0) ≡ true)
+              → let x = completedRow k t (w .state .mount .volume .policy) c (zoneAt given bytes 0) row in
+              Completed (w .state .mount) (w .state .cnv) (w .state .seq) k n x (replied t c x) (effectOf (w .state .mount) (w .state .cnv) (w .state .seq) (completionBy t given bytes))
+          by true long fits = good-completed (w .state .mount) (w .state .cnv) (w .state .seq) k n c row ready
+          by false long fits = rw (failure-told given bytes (long refl)) (failed-completed (w .state .mount) (w .state .cnv) (w .state .seq) k n c row ready (zoneAt given bytes 0) (fits refl))
+
+      -- what the completion leaves has the invariant, with these rows of the seq files and of the cnv files
+      pub invariant-settled : {d : Effect} {a : Answer} {ss : List FileHistory} (rows plain : List Row) → let vol = w .state .mount .volume in let disk = set (w .disk) (placeOf w c) (done .zone) in
+          d .outcome .mount .volume ≡ vol → Completed (w .state .mount) (w .state .cnv) (w .state .seq) k n new a d
+          → Listed (stored Sequential (d .store) (w .state .seq)) rows (vol .sequential) → Files (vol .block) (vol .policy) 0 disk ss rows (vol .sequential)
+          → Listed (stored Conventional (d .store) (w .state .cnv)) plain (vol .conventional) → ((m : ℕ) → m < vol .conventional → Covers (vol .block) disk (getD plain m noRow))
+          → Invariant v ks (record { state = applied (w .state) d; disk = disk; histories = ss })
+      invariant-settled {d} rows plain u g listed files plainly covers =
+          record {
+            same = u ∙ r .same;
+            block = rw u (r .block);
+            zones = zones-after;
+            rows = rows;
+            listed = rw u listed;
+            files = rw u files;
+            plain = plain;
+            plainly = rw u plainly;
+            covers = rw u covers;
+            held = subst (λ (x : Outstanding). Holds x (d .outcome .mount) (stored Conventional (d .store) (w .state .cnv)) (stored Sequential (d .store) (w .state .seq))) (sym (g .idle)) tt;
+          }
 
 -- what a truthful doing tells of its bytes
 abbrev pub Told : System → Command → Choice → Bool → List ℕ → Type 0
 Told w c o given bytes = performIn w c o .succeeded ≡ false → Recorded given bytes (performIn w c o .zone)
 
-module _ {v : Volume} {ks : List FileKind} {w : System} (r : Invariant v ks w) (n : ℕ) (c : Command) (o : Choice) (given : Bool) (bytes : List ℕ) (told : Told w c o given bytes) where
-  abbrev answer : Completion
-  answer = completionBy (performIn w c o .succeeded) given bytes
+module _ {v : Volume} {ks : List FileKind} {w : System} (r : Invariant v ks w) (n : ℕ) (c : Command) (o : Choice) where
+  -- the zone of a seq file's command
+  pub owns : w .state .mount .outstanding ≡ Busy (holdOf Sequential n c)
+      → Own (w .state .mount .volume .block) (w .state .mount .volume .policy) 0 (w .disk) (w .histories) (r .rows) (w .state .mount .volume .sequential) n (placeOf w c)
+  owns e = own (r .files) n (c .address) (known r Sequential n c e) (lies r Sequential n c e .low) (lies r Sequential n c e .high)
 
-  -- a command of a seq file
-  module _ (e : w .state .mount .outstanding ≡ Busy (holdOf Sequential n c)) where
-    owns : Own (w .state .mount .volume .block) (w .state .mount .volume .policy) 0 (w .disk) (w .histories) (r .rows) (w .state .mount .volume .sequential) n (placeOf w c)
-    owns = own (r .files) n (c .address) (known r Sequential n c e o given bytes) (lies r Sequential n c e o given bytes .low) (lies r Sequential n c e o given bytes .high)
+  -- that of a cnv file's, before and after
+  stands : w .state .mount .outstanding ≡ Busy (holdOf Conventional n c) → Inside (w .state .mount .volume .block) (getD (r .plain) n noRow) (getD (w .disk) (placeOf w c) noZone)
+  stands e = r .covers n (known r Conventional n c e) .at (c .address) (lies r Conventional n c e .low) (lies r Conventional n c e .high)
 
-    pub seq-completed : let x = new r Sequential n c e o given bytes in
-        Completed (w .state .mount) (w .state .cnv) (w .state .seq) Sequential n x (replied (performIn w c o .succeeded) c x) (effectOf (w .state .mount) (w .state .cnv) (w .state .seq) answer)
-    seq-completed = completed r Sequential n c e o given bytes (λ f. told f .long) (λ f. report-fits (r .block) (owns .agrees) c (issue r Sequential n c e o given bytes) o (zoneAt given bytes 0) f (told f .shows))
+  pub stood : w .state .mount .outstanding ≡ Busy (holdOf Conventional n c) → Inside (w .state .mount .volume .block) (getD (r .plain) n noRow) (performIn w c o .zone)
+  stood e = performed-moved (λ x. Inside (w .state .mount .volume .block) (getD (r .plain) n noRow) x) _ _ _ c o (λ to h. inside-moved (stands e) to h)
 
-    invariant-seq : Invariant v ks (settledIn w c (performIn w c o) answer)
-    unfolding engine.step
-    invariant-seq = invariant-settled r Sequential n c e o given bytes (set (r .rows) n (new r Sequential n c e o given bytes)) (r .plain) (effect-fixes (w .state .mount) (w .state .cnv) (w .state .seq) answer) seq-completed
-        (listed-became (r .listed) (known r Sequential n c e o given bytes) (seq-completed .here))
-        (owns .put _ _ _ (start-kept _ _ _ c o) (length-kept _ _ _ c o) (keeps-command (r .block) (owns .agrees) c (issue r Sequential n c e o given bytes) o (zoneAt given bytes 0) (λ f. told f .shows)))
-        (rw (seq-completed .other Conventional (w .state .cnv) (λ q. kinds-differ (sym q))) (r .plainly))
-        (covers-after r Sequential n c e o given bytes)
+  module _ (given : Bool) (bytes : List ℕ) (told : Told w c o given bytes) where
+    abbrev answer : Completion
+    answer = completionBy (performIn w c o .succeeded) given bytes
 
-  -- a command of a cnv file
-  module _ (e : w .state .mount .outstanding ≡ Busy (holdOf Conventional n c)) where
-    stands : Inside (w .state .mount .volume .block) (getD (r .plain) n noRow) (getD (w .disk) (placeOf w c) noZone)
-    stands = r .covers n (known r Conventional n c e o given bytes) .at (c .address) (lies r Conventional n c e o given bytes .low) (lies r Conventional n c e o given bytes .high)
+    -- a command of a seq file
+    module _ (e : w .state .mount .outstanding ≡ Busy (holdOf Sequential n c)) where
+      pub seq-completed : let x = new r Sequential n c e o given bytes in
+          Completed (w .state .mount) (w .state .cnv) (w .state .seq) Sequential n x (replied (performIn w c o .succeeded) c x) (effectOf (w .state .mount) (w .state .cnv) (w .state .seq) answer)
+      seq-completed = completed r Sequential n c e o given bytes (λ f. told f .long) (λ f. report-fits (r .block) (owns e .agrees) c (issue r Sequential n c e) o (zoneAt given bytes 0) f (told f .shows))
 
-    stood : Inside (w .state .mount .volume .block) (getD (r .plain) n noRow) (performIn w c o .zone)
-    stood = performed-moved (λ x. Inside (w .state .mount .volume .block) (getD (r .plain) n noRow) x) _ _ _ c o (λ to h. inside-moved stands to h)
+      invariant-seq : Invariant v ks (settledIn w c (performIn w c o) answer)
+      unfolding engine.step
+      invariant-seq = invariant-settled r Sequential n c e o given bytes (set (r .rows) n (new r Sequential n c e o given bytes)) (r .plain) (effect-fixes (w .state .mount) (w .state .cnv) (w .state .seq) answer) seq-completed
+          (listed-became (r .listed) (known r Sequential n c e) (seq-completed .here))
+          (owns e .put _ _ _ (start-kept _ _ _ c o) (length-kept _ _ _ c o) (keeps-command (r .block) (owns e .agrees) c (issue r Sequential n c e) o (zoneAt given bytes 0) (λ f. told f .shows)))
+          (rw (seq-completed .other Conventional (w .state .cnv) (λ q. kinds-differ (sym q))) (r .plainly))
+          (covers-after r Sequential n c e o)
 
-    pub cnv-completed : let x = new r Conventional n c e o given bytes in
-        Completed (w .state .mount) (w .state .cnv) (w .state .seq) Conventional n x (replied (performIn w c o .succeeded) c x) (effectOf (w .state .mount) (w .state .cnv) (w .state .seq) answer)
-    cnv-completed = completed r Conventional n c e o given bytes (λ f. told f .long) (λ f. inside-fits stood (told f .shows))
+    -- a command of a cnv file
+    module _ (e : w .state .mount .outstanding ≡ Busy (holdOf Conventional n c)) where
+      pub cnv-completed : let x = new r Conventional n c e o given bytes in
+          Completed (w .state .mount) (w .state .cnv) (w .state .seq) Conventional n x (replied (performIn w c o .succeeded) c x) (effectOf (w .state .mount) (w .state .cnv) (w .state .seq) answer)
+      cnv-completed = completed r Conventional n c e o given bytes (λ f. told f .long) (λ f. inside-fits (stood e) (told f .shows))
 
-    invariant-cnv : Invariant v ks (settledIn w c (performIn w c o) answer)
-    unfolding engine.step
-    invariant-cnv = invariant-settled r Conventional n c e o given bytes (r .rows) (set (r .plain) n (new r Conventional n c e o given bytes)) (effect-fixes (w .state .mount) (w .state .cnv) (w .state .seq) answer) cnv-completed
-        (rw (cnv-completed .other Sequential (w .state .seq) kinds-differ) (r .listed))
-        (alter (r .files) _ _ _ (start-kept _ _ _ c o) (length-kept _ _ _ c o) (file-kept _ _ _ c o) (λ s. stood .sound) (λ x a. absurd (kinds-differ (sym (stands .kind) ∙ a .kind))))
-        (listed-became (r .plainly) (known r Conventional n c e o given bytes) (cnv-completed .here))
-        (λ m h. set-keeps (λ x. Covers (w .state .mount .volume .block) (set (w .disk) (placeOf w c) (performIn w c o .zone)) x) noRow (r .plain) n m (new r Conventional n c e o given bytes)
-        (λ v. let q = plain-in-place (performIn w c o .succeeded) _ c _ _ in covers-same (q .0) (q .1) v) (covers-after r Conventional n c e o given bytes m h))
+      invariant-cnv : Invariant v ks (settledIn w c (performIn w c o) answer)
+      unfolding engine.step
+      invariant-cnv = invariant-settled r Conventional n c e o given bytes (r .rows) (set (r .plain) n (new r Conventional n c e o given bytes)) (effect-fixes (w .state .mount) (w .state .cnv) (w .state .seq) answer) cnv-completed
+          (rw (cnv-completed .other Sequential (w .state .seq) kinds-differ) (r .listed))
+          (alter (r .files) _ _ _ (start-kept _ _ _ c o) (length-kept _ _ _ c o) (file-kept _ _ _ c o) (λ s. stood e .sound) (λ x a. absurd (kinds-differ (sym (stands e .kind) ∙ a .kind))))
+          (listed-became (r .plainly) (known r Conventional n c e) (cnv-completed .here))
+          (λ m h. set-keeps (λ x. Covers (w .state .mount .volume .block) (set (w .disk) (placeOf w c) (performIn w c o .zone)) x) noRow (r .plain) n m (new r Conventional n c e o given bytes)
+          (λ v. let q = plain-in-place (performIn w c o .succeeded) _ c _ _ in covers-same (q .0) (q .1) v) (covers-after r Conventional n c e o m h))
+
+-- WHATEVER THE DISK DOES with the command that is held, the zone is good input.
+pub performed-sound : {v : Volume} {ks : List FileKind} {w : System} → Invariant v ks w → (k : FileKind) (n : ℕ) (c : Command) (o : Choice) → w .state .mount .outstanding ≡ Busy (holdOf k n c)
+    → SoundZone (w .state .mount .volume .block) (performIn w c o .zone)
+performed-sound {w = w} r Conventional n c o e = stood r n c o e .sound
+performed-sound {w = w} r Sequential n c o e =
+    keeps-command (r .block) (owns r n c o e .agrees) c (issue r Sequential n c e) o (reported (performIn w c o .zone)) (λ f. reported-shows (performIn w c o .zone)) .sound
 
 -- a doing that is done, or whose bytes show the zone
 pub truthful-told : (w : System) (h : Held) → w .state .mount .outstanding ≡ Busy h → (o : Choice) (given : Bool) (bytes : List ℕ) → truthful w (doing o given bytes) ≡ true → Told w (h .command) o given bytes

@@ -2,3 +2,5 @@ pub mod Whole
 pub mod Conditions
 pub mod Shows
 pub mod SoundZone
+pub mod Reported
+pub mod Found
