@@ -18,3 +18,6 @@ pub mod Mounts
 pub mod Start
 pub mod Fresh
 pub mod Demand
+pub mod Computed
+pub mod Cases
+pub mod Runs

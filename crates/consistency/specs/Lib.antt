@@ -3,3 +3,5 @@ pub mod System
 pub mod Claim
 pub mod Demand
 pub mod Frame
+pub mod Cases
+pub mod Runs

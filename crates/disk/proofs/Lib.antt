@@ -4,3 +4,4 @@ pub mod Shows
 pub mod SoundZone
 pub mod Reported
 pub mod Found
+pub mod Cases

@@ -1,3 +1,4 @@
 pub mod Disk
-pub mod Facts
 pub mod Shows
+pub mod Facts
+pub mod Cases

@@ -6,4 +6,5 @@ pub mod Kinds
 pub mod Mounts
 pub mod Numbers
 pub mod Predicates
+pub mod Stated
 pub mod Verdicts

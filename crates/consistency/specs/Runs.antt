@@ -1,0 +1,241 @@
+-- Small runs, from mounts like that of the starred cases, which show that the disk isn't too tame: in them every command is done and fails,
+-- a write lands in part, zones fall and worsen, alone and with a failure, and each exception of demand 3 comes about.
+use mathlib.Core.Bool.{Bool, true, false}
+use mathlib.Core.List.{List, [], _∷_, _++_}
+use Prim.Native.Nat.{ℕ, _*_}
+use Rattle.types.specs.declared.FileKind.{FileKind}
+use Rattle.types.specs.declared.FileKind.the-variants.{Conventional, Sequential}
+use Rattle.types.specs.declared.Condition.{Condition}
+use Rattle.types.specs.declared.Condition.the-variants.{Healthy, ReadOnly}
+use Rattle.types.specs.declared.ErrorPolicy.{ErrorPolicy}
+use Rattle.types.specs.declared.ErrorPolicy.the-variants.{RemountRo, ZoneRo, ZoneOffline, Repair}
+use Rattle.types.specs.declared.Call.{Call}
+use Rattle.types.specs.declared.Outstanding.{Outstanding}
+use Rattle.types.specs.declared.Outstanding.the-variants.{Idle, Busy}
+use Rattle.types.specs.Codes.{flagCode, kindCode, conditionCode, accessCode}
+use Rattle.types.specs.Numbers.{answerNumber}
+use Rattle.types.specs.Stated.{Case, is, AsStated}
+use Rattle.zones.specs.declared.Zone.{Zone}
+use Rattle.zones.specs.Zone.{encodeZone}
+use Rattle.files.specs.Files.{seqRow}
+use Rattle.mount.specs.Mount.{Mounting}
+use Rattle.completion.specs.Completions.{Completion}
+use Rattle.engine.specs.Engine.{Input}
+use Rattle.engine.specs.Engine as engine
+use Rattle.disk.specs.Disk.{DiskZone, Harm, none, toReadOnly, toOffline, Mishap, Choice, reported}
+use Rattle.consistency.specs.System.{System, Event, call, mishap, doing, stray, step, run, allTruthful, mounted, zoneOf, historyOf}
+use Rattle.consistency.specs.Demand.{Start, digested}
+use Rattle.consistency.specs.Cases.{Setting, paper, aggregated, block512, zone4ReadOnly, blockIn, aggregates, zone, report, superblock, lent, optionText, mountUnder, sizeIn, accessIn}
+
+-- ---- the disk of each setting
+
+abbrev pub zoneThere : ℕ → FileKind → ℕ → ℕ → Condition → DiskZone
+zoneThere number kind capacity pointer condition =
+    record { kind = kind; start = number * 524288; length = 524288; capacity = capacity; pointer = pointer; condition = condition }
+
+abbrev pub lastThere : Setting → Condition
+lastThere paper = Healthy
+lastThere aggregated = Healthy
+lastThere block512 = Healthy
+lastThere zone4ReadOnly = ReadOnly
+
+unfoldable pub disk : Setting → List DiskZone
+disk x =
+    zoneThere 0 Conventional 524288 0 Healthy
+    ∷ zoneThere 1 Conventional 524288 0 Healthy
+    ∷ zoneThere 2 Conventional 524288 0 Healthy
+    ∷ zoneThere 3 Sequential 393216 1572872 Healthy
+    ∷ zoneThere 4 Sequential 393216 2097152 (lastThere x)
+    ∷ []
+
+-- ---- events
+
+-- a call on seq/0, and one on cnv/0
+abbrev pub seq0 : Call → Event
+seq0 x = call (kindCode Sequential) 0 x
+
+abbrev pub cnv0 : Call → Event
+cnv0 x = call (kindCode Conventional) 0 x
+
+abbrev pub write : Event
+write = seq0 (Call.Write 4096 8192)
+
+abbrev pub read : Event
+read = seq0 (Call.Read 0 4096)
+
+abbrev pub reset : Event
+reset = seq0 (Call.Truncate 0)
+
+abbrev pub finish : Event
+finish = seq0 (Call.Truncate 201326592)
+
+abbrev pub flush : Event
+flush = seq0 Call.Flush
+
+-- so many blocks back; a worse condition
+abbrev pub falls : ℕ → Mishap
+falls blocks = record { blocks = blocks; harm = none }
+
+abbrev pub worsens : Harm → Mishap
+worsens harm = record { blocks = 0; harm = harm }
+
+-- the disk does the command if it can, and else reports this record
+abbrev pub tries : Zone → Event
+tries r = doing (record { fails = false; lands = 0; mishap = falls 0 }) true (encodeZone r)
+
+-- it does it
+abbrev pub done : Event
+done = doing (record { fails = false; lands = 0; mishap = falls 0 }) false []
+
+-- it fails after so many blocks, with a mishap, and reports this record
+abbrev pub fails : ℕ → Mishap → Zone → Event
+fails lands e r = doing (record { fails = true; lands = lands; mishap = e }) true (encodeZone r)
+
+-- a record of zone 3: type, condition and pointer
+abbrev pub zone3 : ℕ → ℕ → ℕ → Zone
+zone3 kind condition pointer = zone 3 kind condition 393216 pointer
+
+-- ---- what is seen of a run
+
+-- the numbers that are answered on the way
+abbrev pub doingReply : Outstanding → System → Choice → Bool → List ℕ → List ℕ
+doingReply Idle s o given bytes = []
+doingReply (Busy h) s o given bytes = answerNumber (digested s h o given bytes .reply) ∷ []
+
+abbrev pub strayReply : Outstanding → System → Completion → List ℕ
+strayReply Idle s x = answerNumber (engine.step (s .state) (Input.completion x) .reply) ∷ []
+strayReply (Busy h) s x = []
+
+abbrev pub replyTo : System → Event → List ℕ
+replyTo s (call kind n x) = answerNumber (engine.step (s .state) (Input.call kind n x) .reply) ∷ []
+replyTo s (mishap i e) = []
+replyTo s (doing o given bytes) = doingReply (s .state .mount .outstanding) s o given bytes
+replyTo s (stray x) = strayReply (s .state .mount .outstanding) s x
+
+unfoldable pub replies : System → List Event → List ℕ
+replies s [] = []
+replies s (e ∷ es) = replyTo s e ++ replies (step s e) es
+
+-- of seq/n: size and access of its row, those that a fresh mount gives its zone, whether it is quiet, its last size; and the read-only mark
+abbrev pub seqSeen : ℕ → System → List ℕ
+seqSeen n s =
+    sizeIn (s .state .seq) n ∷ accessIn (s .state .seq) n ∷ seqRow (reported (zoneOf s n)) .size ∷ accessCode (seqRow (reported (zoneOf s n)) .access)
+    ∷ flagCode (historyOf s n .quiet) ∷ historyOf s n .lastSize ∷ flagCode (s .state .mount .readonly) ∷ []
+
+-- of cnv/0: size and access of its row; the conditions of all zones; and the read-only mark
+abbrev pub conditions : List DiskZone → List ℕ
+conditions [] = []
+conditions (z ∷ zs) = conditionCode (z .condition) ∷ conditions zs
+
+abbrev pub cnvSeen : System → List ℕ
+cnvSeen s = sizeIn (s .state .cnv) 0 ∷ accessIn (s .state .cnv) 0 ∷ (conditions (s .disk) ++ (flagCode (s .state .mount .readonly) ∷ []))
+
+-- whether all is reported truthfully, what is answered, and what is seen in the end
+abbrev pub seenOf : (System → List ℕ) → System → List Event → List ℕ
+seenOf see s events = flagCode (allTruthful s events) ∷ (replies s events ++ see (run s events))
+
+-- truthful, with these answers and this sight
+abbrev pub truly : List ℕ → List ℕ → List ℕ
+truly answers seen = 1 ∷ (answers ++ seen)
+
+-- ---- the tables
+
+module _ (under : Setting → ErrorPolicy → Mounting) where
+  abbrev pub startIn : Setting → ErrorPolicy → System
+  startIn x p = mounted (under x p) (disk x)
+
+  -- seq/0 of the paper's mount, under an option
+  abbrev pub on0 : ErrorPolicy → List Event → List ℕ → List ℕ → Case
+  on0 p events answers seen = is (seenOf (seqSeen 0) (startIn paper p) events) (truly answers seen)
+
+  -- what a command does, and what its failure leaves
+  unfoldable pub commandRuns : List Case
+  commandRuns =
+      -- a write that is done; one of which a block lands, in three truthful records: type 2 or 3, any condition byte that fits
+      on0 Repair (write ∷ done ∷ []) (0 ∷ 0 ∷ []) (12288 ∷ 2 ∷ 12288 ∷ 2 ∷ 1 ∷ 12288 ∷ 0 ∷ [])
+      ∷ on0 Repair (write ∷ fails 1 (falls 0) (zone3 2 2 1572880) ∷ []) (0 ∷ 7 ∷ []) (8192 ∷ 2 ∷ 8192 ∷ 2 ∷ 1 ∷ 8192 ∷ 0 ∷ [])
+      ∷ on0 Repair (write ∷ fails 1 (falls 0) (zone3 3 4 1572880) ∷ []) (0 ∷ 7 ∷ []) (8192 ∷ 2 ∷ 8192 ∷ 2 ∷ 1 ∷ 8192 ∷ 0 ∷ [])
+      ∷ on0 Repair (write ∷ fails 2 (falls 0) (zone3 3 1 1572888) ∷ []) (0 ∷ 7 ∷ []) (12288 ∷ 2 ∷ 12288 ∷ 2 ∷ 1 ∷ 12288 ∷ 0 ∷ [])
+      -- a reset, a finish and a flush, each done and failed
+      ∷ on0 Repair (reset ∷ done ∷ []) (0 ∷ 0 ∷ []) (0 ∷ 2 ∷ 0 ∷ 2 ∷ 1 ∷ 0 ∷ 0 ∷ [])
+      ∷ on0 Repair (reset ∷ fails 0 (falls 0) (zone3 2 2 1572872) ∷ []) (0 ∷ 7 ∷ []) (4096 ∷ 2 ∷ 4096 ∷ 2 ∷ 1 ∷ 4096 ∷ 0 ∷ [])
+      ∷ on0 Repair (finish ∷ done ∷ []) (0 ∷ 0 ∷ []) (201326592 ∷ 2 ∷ 201326592 ∷ 2 ∷ 1 ∷ 201326592 ∷ 0 ∷ [])
+      ∷ on0 Repair (finish ∷ fails 0 (falls 0) (zone3 2 2 1572872) ∷ []) (0 ∷ 7 ∷ []) (4096 ∷ 2 ∷ 4096 ∷ 2 ∷ 1 ∷ 4096 ∷ 0 ∷ [])
+      ∷ on0 Repair (flush ∷ done ∷ []) (0 ∷ 0 ∷ []) (4096 ∷ 2 ∷ 4096 ∷ 2 ∷ 1 ∷ 4096 ∷ 0 ∷ [])
+      ∷ on0 Repair (flush ∷ fails 0 (falls 0) (zone3 2 2 1572872) ∷ []) (0 ∷ 7 ∷ []) (4096 ∷ 2 ∷ 4096 ∷ 2 ∷ 1 ∷ 4096 ∷ 0 ∷ [])
+      -- a failed read with nothing lost recovers nothing, also under zone-ro
+      ∷ on0 ZoneRo (read ∷ fails 0 (falls 0) (zone3 2 2 1572872) ∷ []) (0 ∷ 7 ∷ []) (4096 ∷ 2 ∷ 4096 ∷ 2 ∷ 1 ∷ 4096 ∷ 0 ∷ [])
+      -- a completion with nothing outstanding
+      ∷ on0 Repair (stray Completion.good ∷ []) (8 ∷ []) (4096 ∷ 2 ∷ 4096 ∷ 2 ∷ 1 ∷ 4096 ∷ 0 ∷ [])
+      -- a kind that there isn't
+      ∷ on0 Repair (call 2 0 Call.Flush ∷ []) (1 ∷ []) (4096 ∷ 2 ∷ 4096 ∷ 2 ∷ 1 ∷ 4096 ∷ 0 ∷ [])
+      ∷ []
+
+  -- what befalls a zone, alone or with a failure
+  unfoldable pub mishapRuns : List Case
+  mishapRuns =
+      -- a fall: a good read shows nothing of it; the next write or flush must fail, and then the row knows
+      on0 Repair (mishap 3 (falls 1) ∷ read ∷ done ∷ []) (0 ∷ 0 ∷ []) (4096 ∷ 2 ∷ 0 ∷ 2 ∷ 0 ∷ 4096 ∷ 0 ∷ [])
+      ∷ on0 Repair (mishap 3 (falls 1) ∷ write ∷ tries (zone3 2 1 1572864) ∷ []) (0 ∷ 7 ∷ []) (0 ∷ 2 ∷ 0 ∷ 2 ∷ 1 ∷ 0 ∷ 0 ∷ [])
+      ∷ on0 Repair (mishap 3 (falls 1) ∷ flush ∷ tries (zone3 2 1 1572864) ∷ []) (0 ∷ 7 ∷ []) (0 ∷ 2 ∷ 0 ∷ 2 ∷ 1 ∷ 0 ∷ 0 ∷ [])
+      -- of two blocks one can be fallen; and a fall of no block is none
+      ∷ on0 Repair (mishap 3 (falls 2) ∷ []) [] (4096 ∷ 2 ∷ 0 ∷ 2 ∷ 0 ∷ 4096 ∷ 0 ∷ [])
+      ∷ on0 Repair (mishap 3 (falls 0) ∷ []) [] (4096 ∷ 2 ∷ 4096 ∷ 2 ∷ 1 ∷ 4096 ∷ 0 ∷ [])
+      -- of three blocks one, as two were written before: the last size is theirs
+      ∷ on0 Repair (write ∷ done ∷ mishap 3 (falls 1) ∷ []) (0 ∷ 0 ∷ []) (12288 ∷ 2 ∷ 8192 ∷ 2 ∷ 0 ∷ 12288 ∷ 0 ∷ [])
+      -- a fall with a failure
+      ∷ on0 Repair (write ∷ fails 1 (falls 2) (zone3 2 1 1572864) ∷ []) (0 ∷ 7 ∷ []) (0 ∷ 2 ∷ 0 ∷ 2 ∷ 1 ∷ 0 ∷ 0 ∷ [])
+      -- read-only, alone: reads are done, and nothing else; the record's pointer may be anything
+      ∷ on0 Repair (mishap 3 (worsens toReadOnly) ∷ read ∷ done ∷ []) (0 ∷ 0 ∷ []) (4096 ∷ 2 ∷ 0 ∷ 0 ∷ 0 ∷ 4096 ∷ 0 ∷ [])
+      ∷ on0 Repair (mishap 3 (worsens toReadOnly) ∷ write ∷ tries (zone3 2 13 7) ∷ []) (0 ∷ 7 ∷ []) (4096 ∷ 1 ∷ 0 ∷ 0 ∷ 1 ∷ 4096 ∷ 0 ∷ [])
+      ∷ on0 Repair (mishap 3 (worsens toReadOnly) ∷ reset ∷ tries (zone3 2 13 7) ∷ []) (0 ∷ 7 ∷ []) (4096 ∷ 1 ∷ 0 ∷ 0 ∷ 1 ∷ 4096 ∷ 0 ∷ [])
+      ∷ on0 Repair (mishap 3 (worsens toReadOnly) ∷ finish ∷ tries (zone3 2 13 7) ∷ []) (0 ∷ 7 ∷ []) (4096 ∷ 1 ∷ 0 ∷ 0 ∷ 1 ∷ 4096 ∷ 0 ∷ [])
+      -- known to be read-only, its pointer falls: that is no mishap
+      ∷ on0 Repair (write ∷ fails 0 (worsens toReadOnly) (zone3 2 13 0) ∷ mishap 3 (falls 1) ∷ []) (0 ∷ 7 ∷ []) (4096 ∷ 1 ∷ 0 ∷ 0 ∷ 1 ∷ 4096 ∷ 0 ∷ [])
+      -- offline: nothing is done, not even a read; and it is never better than that
+      ∷ on0 Repair (mishap 3 (worsens toOffline) ∷ read ∷ tries (zone3 2 15 0) ∷ []) (0 ∷ 7 ∷ []) (0 ∷ 0 ∷ 0 ∷ 0 ∷ 1 ∷ 4096 ∷ 0 ∷ [])
+      ∷ on0 Repair (mishap 3 (worsens toOffline) ∷ mishap 3 (worsens toReadOnly) ∷ read ∷ tries (zone3 2 15 0) ∷ []) (0 ∷ 7 ∷ []) (0 ∷ 0 ∷ 0 ∷ 0 ∷ 1 ∷ 4096 ∷ 0 ∷ [])
+      ∷ []
+
+  -- the exceptions, under each option that they concern
+  unfoldable pub exceptionRuns : List Case
+  exceptionRuns =
+      -- remount-ro: the mount turns read-only, and the next write is refused
+      on0 RemountRo (write ∷ fails 1 (falls 0) (zone3 2 2 1572880) ∷ write ∷ []) (0 ∷ 7 ∷ 3 ∷ []) (8192 ∷ 2 ∷ 8192 ∷ 2 ∷ 1 ∷ 8192 ∷ 1 ∷ [])
+      -- "Under zone-offline a recovered file shows 0 and can't be read."
+      ∷ on0 ZoneOffline (write ∷ fails 1 (falls 0) (zone3 2 2 1572880) ∷ []) (0 ∷ 7 ∷ []) (0 ∷ 0 ∷ 8192 ∷ 2 ∷ 1 ∷ 8192 ∷ 0 ∷ [])
+      ∷ on0 ZoneOffline (write ∷ fails 1 (worsens toReadOnly) (zone3 2 13 0) ∷ []) (0 ∷ 7 ∷ []) (0 ∷ 0 ∷ 0 ∷ 0 ∷ 1 ∷ 4096 ∷ 0 ∷ [])
+      -- "Under the other options one whose zone is read-only, and wasn't at mount, keeps its last size and can be read."
+      ∷ on0 RemountRo (write ∷ fails 1 (worsens toReadOnly) (zone3 2 13 0) ∷ []) (0 ∷ 7 ∷ []) (4096 ∷ 1 ∷ 0 ∷ 0 ∷ 1 ∷ 4096 ∷ 1 ∷ [])
+      ∷ on0 ZoneRo (write ∷ fails 1 (worsens toReadOnly) (zone3 2 13 0) ∷ []) (0 ∷ 7 ∷ []) (4096 ∷ 1 ∷ 0 ∷ 0 ∷ 1 ∷ 4096 ∷ 0 ∷ [])
+      ∷ on0 Repair (write ∷ fails 1 (worsens toReadOnly) (zone3 2 13 0) ∷ []) (0 ∷ 7 ∷ []) (4096 ∷ 1 ∷ 0 ∷ 0 ∷ 1 ∷ 4096 ∷ 0 ∷ [])
+      -- "Under zone-ro a recovered one with a healthy zone has that size, but can only be read."
+      ∷ on0 ZoneRo (write ∷ fails 1 (falls 0) (zone3 2 2 1572880) ∷ []) (0 ∷ 7 ∷ []) (8192 ∷ 1 ∷ 8192 ∷ 2 ∷ 1 ∷ 8192 ∷ 0 ∷ [])
+      ∷ []
+
+  -- other files, and other mounts
+  unfoldable pub otherRuns : List Case
+  otherRuns =
+      -- seq/1
+      is (seenOf (seqSeen 1) (startIn paper Repair) (call 1 1 (Call.Write 0 4096) ∷ done ∷ [])) (truly (0 ∷ 0 ∷ []) (4096 ∷ 2 ∷ 4096 ∷ 2 ∷ 1 ∷ 4096 ∷ 0 ∷ []))
+      -- one whose zone was read-only at mount can't be read, and isn't among the exceptions
+      ∷ is (seenOf (seqSeen 1) (startIn zone4ReadOnly Repair) (call 1 1 (Call.Read 0 4096) ∷ [])) (truly (4 ∷ []) (0 ∷ 0 ∷ 0 ∷ 0 ∷ 1 ∷ 0 ∷ 0 ∷ []))
+      -- with block 512: a write of one block, and a fall of one
+      ∷ is (seenOf (seqSeen 0) (startIn block512 Repair) (seq0 (Call.Write 4096 512) ∷ done ∷ [])) (truly (0 ∷ 0 ∷ []) (4608 ∷ 2 ∷ 4608 ∷ 2 ∷ 1 ∷ 4608 ∷ 0 ∷ []))
+      ∷ is (seenOf (seqSeen 0) (startIn block512 Repair) (mishap 3 (falls 1) ∷ [])) (truly [] (4096 ∷ 2 ∷ 3584 ∷ 2 ∷ 0 ∷ 4096 ∷ 0 ∷ []))
+      -- a conventional file takes a write anywhere, and its size never moves; under remount-ro its failure marks the mount too
+      ∷ is (seenOf cnvSeen (startIn paper RemountRo) (cnv0 (Call.Write 8192 100) ∷ done ∷ [])) (truly (0 ∷ 0 ∷ []) (268435456 ∷ 2 ∷ 0 ∷ 0 ∷ 0 ∷ 0 ∷ 0 ∷ 0 ∷ []))
+      ∷ is (seenOf cnvSeen (startIn paper RemountRo) (cnv0 (Call.Write 8192 100) ∷ fails 0 (falls 0) (zone 1 1 0 524288 9) ∷ []))
+          (truly (0 ∷ 7 ∷ []) (268435456 ∷ 2 ∷ 0 ∷ 0 ∷ 0 ∷ 0 ∷ 0 ∷ 1 ∷ []))
+      -- an aggregated run: the zone at the command's address is its second
+      ∷ is (seenOf cnvSeen (startIn aggregated Repair) (cnv0 (Call.Write 268435456 4096) ∷ fails 0 (worsens toReadOnly) (zone 2 1 13 524288 0) ∷ []))
+          (truly (0 ∷ 7 ∷ []) (536870912 ∷ 1 ∷ 0 ∷ 0 ∷ 1 ∷ 0 ∷ 0 ∷ 0 ∷ []))
+      ∷ []
+
+-- the runs are of those that demand 3 speaks of, and each ends as its table says
+pub record Runs : Type 0 where
+  pub starts : (x : Setting) (p : ErrorPolicy) → Start (blockIn x) (superblock (aggregates x)) (optionText p) (report x) lent lent (disk x)
+  pub commands : AsStated (commandRuns mountUnder)
+  pub mishaps : AsStated (mishapRuns mountUnder)
+  pub exceptions : AsStated (exceptionRuns mountUnder)
+  pub others : AsStated (otherRuns mountUnder)
