@@ -1,6 +1,6 @@
 -- A mount value is within its types: its numbers of files by the report's header, and what the super block gives by its bytes.
 -- Assumes nothing.
-use mathlib.Core.Path.{_≡_, refl, ap, _∙_, sym}
+use mathlib.Core.Path.{_≡_, refl}
 use mathlib.Core.List.{List, [], _∷_}
 use mathlib.Core.Bool.{Bool, true, false, cond, _&&_}
 use Prim.Native.Nat.{ℕ, zero, suc, _+_, _%_, _^_, _≤_, _<_}
@@ -76,6 +76,7 @@ zero-bytes zero k = omega arith
 zero-bytes (suc n) zero = omega arith
 zero-bytes (suc n) (suc k) = zero-bytes n k
 
+-- its uid and gid are numbers of four bytes, and `mount` does not stand on `wire`: `le-below` of `mount_words` gives the bounds from the bytes
 module _ (b : List ℕ) (bytes : (k : ℕ) → getD b k 0 < 256) (uid : uidAt b < 2 ^ 32) (gid : gidAt b < 2 ^ 32) where
   length-told : superCheck b ≡ verdict.Passed → length b ≡ superLength
   unfolding superCheck

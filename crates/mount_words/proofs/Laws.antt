@@ -9,7 +9,7 @@ use mathlib.Core.Path.{_≡_, refl, _∙_, ap, sym}
 use mathlib.Core.Bool.{Bool, true, false, cond, _||_}
 use mathlib.Core.List.{List, [], _∷_, _++_, append-assoc}
 use lib.ListN.{length, getD, set, take, drop, replicate, length-append, length-drop, length-set, take-append-drop, List·getD-append}
-use lib.Seq.{sets, take-all, length-take-le, length-sets, sets-eq, getD-take, getD-append-add, set-getD, getD-set-same, getD-set-other}
+use lib.Seq.{sets, take-all, length-take-le, length-sets, sets-eq, getD-append-add, set-getD, getD-set-same, getD-set-other}
 use borrow.Author.Tests.{ltb-true, lt-ltb, leb-true, le-leb}
 use Rattle.types.specs.declared.Mount.{Mount}
 use Rattle.types.specs.declared.Volume.{Volume}
@@ -195,23 +195,20 @@ valued-from w =
       number = outstanding-small (flagFrom (word w 10)) (heldFrom w) (mod-lt (word w 12) (omega arith));
     }
 
--- WORDS PUT from a place on: those before it stand as they were, and they stand there
+-- WORDS PUT from a place on: they stand there, and all others as they stood
 
-module _ (w vs : List ℕ) (at : ℕ) (fits : at + length vs ≤ length w) where
-  front : length (take at w) ≡ at
-  front = length-take-le at w (omega arith)
+put-outside : (w vs : List ℕ) (at k : ℕ) → (at ≤ k → at + length vs ≤ k) → word (sets w at vs) k ≡ word w k
+put-outside w [] at k h = refl
+put-outside w (v ∷ vs) at k h =
+    let other : k ≡ at → ⊥ = λ e. let past = h (omega arith) in omega arith in
+    put-outside (set w at v) vs (suc at) k (λ g. let past = h (omega arith) in omega arith) ∙ getD-set-other w at k v 0 other
 
-  placed : sets w at vs ≡ take at w ++ (vs ++ drop (at + length vs) w)
-  placed = sets-eq vs w at fits ∙ append-assoc (take at w) vs (drop (at + length vs) w)
-
-  put-before : (k : ℕ) → k < at → word (sets w at vs) k ≡ word w k
-  put-before k h = rw placed (List·getD-append (take at w) _ 0 k (omega (arith, front)) ∙ getD-take at w k 0 h)
-
-  put-there : (k : ℕ) → k < length vs → word (sets w at vs) (at + k) ≡ word vs k
-  put-there k h =
-      let rest = vs ++ drop (at + length vs) w in
-      rw placed (
-      ap (λ (n : ℕ). word (take at w ++ rest) (n + k)) (sym front) ∙ getD-append-add (take at w) rest k 0 ∙ List·getD-append vs _ 0 k h)
+put-there : (w vs : List ℕ) (at k : ℕ) → k < length vs → at + length vs ≤ length w → word (sets w at vs) (at + k) ≡ word vs k
+put-there w vs at k h fits =
+    let rest = vs ++ drop (at + length vs) w in
+    let front : length (take at w) ≡ at = length-take-le at w (omega arith) in
+    let placed : sets w at vs ≡ take at w ++ rest = sets-eq vs w at fits ∙ append-assoc (take at w) vs (drop (at + length vs) w) in
+    rw placed (ap (λ (n : ℕ). word (take at w ++ rest) (n + k)) (sym front) ∙ getD-append-add (take at w) rest k 0 ∙ List·getD-append vs _ 0 k h)
 
 -- WHAT THE MOUNT FIXES, in the words before those of the state
 
@@ -291,15 +288,13 @@ module _ (w : List ℕ) (o : Outstanding) where
   pub outstanding-length : length (withOutstanding w o) ≡ length w
   outstanding-length = cases changes (λ e. rw e (length-sets w outstandingAt (outstandingWords o))) (λ e. rw e)
 
+  outstanding-outside : (k : ℕ) → (outstandingAt ≤ k → mountLength ≤ k) → word (withOutstanding w o) k ≡ word w k
+  outstanding-outside k h = cases changes (λ e. rw e (put-outside w (outstandingWords o) outstandingAt k h)) (λ e. rw e)
+
   module _ (long : mountLength ≤ length w) where
-    fits : outstandingAt + length (outstandingWords o) ≤ length w
-    fits = omega arith
-
-    outstanding-before : (k : ℕ) → k < outstandingAt → word (withOutstanding w o) k ≡ word w k
-    outstanding-before k h = cases changes (λ e. rw e (put-before w (outstandingWords o) outstandingAt fits k h)) (λ e. rw e)
-
     there : (k : ℕ) → k < 6 → word (sets w outstandingAt (outstandingWords o)) (outstandingAt + k) ≡ word (alone o) (outstandingAt + k)
-    there k h = put-there w (outstandingWords o) outstandingAt fits k h ∙ sym (getD-append-add (replicate outstandingAt 0) (outstandingWords o) k 0)
+    there k h =
+        put-there w (outstandingWords o) outstandingAt k h (omega arith) ∙ sym (getD-append-add (replicate outstandingAt 0) (outstandingWords o) k 0)
 
     outstanding-stands : (o₀ : Outstanding) → Stands w o₀ → heldIn o .number < 2 ^ 32 → Stands (withOutstanding w o) o
     outstanding-stands o₀ s small =
@@ -345,22 +340,26 @@ module _ (w : List ℕ) (m : Mount) where
   unfolding withState
   state-length = outstanding-length marked (m .outstanding) ∙ length-set w stateAt (flagCode (m .readonly))
 
+  -- no other word changes
+  pub state-outside : (k : ℕ) → (stateAt ≤ k → mountLength ≤ k) → word (withState w m) k ≡ word w k
+  unfolding withState
+  state-outside k h =
+      let past : outstandingAt ≤ k → mountLength ≤ k = λ g. h (omega arith) in
+      let other : k ≡ stateAt → ⊥ = λ e. let far = h (omega arith) in omega arith in
+      outstanding-outside marked (m .outstanding) k past ∙ marked-other k other
+
   module _ (long : mountLength ≤ length w) where
-    marked-long : mountLength ≤ length marked
-    marked-long = omega (arith, length-set w stateAt (flagCode (m .readonly)))
-
-    state-before : (k : ℕ) → k < stateAt → word (withState w m) k ≡ word w k
-    unfolding withState
-    state-before k h = outstanding-before marked (m .outstanding) marked-long k (omega arith) ∙ marked-other k (λ e. omega arith)
-
     state-mark : word (withState w m) stateAt ≡ flagCode (m .readonly)
     unfolding withState
-    state-mark = outstanding-before marked (m .outstanding) marked-long stateAt (omega arith) ∙ getD-set-same w stateAt (flagCode (m .readonly)) 0 (omega arith)
+    state-mark =
+        outstanding-outside marked (m .outstanding) stateAt (λ g. absurd (omega arith))
+        ∙ getD-set-same w stateAt (flagCode (m .readonly)) 0 (omega arith)
 
     state-stands : {o : Outstanding} → Stands w o → heldIn (m .outstanding) .number < 2 ^ 32 → Stands (withState w m) (m .outstanding)
     unfolding withState
     state-stands {o} s small =
-        outstanding-stands marked (m .outstanding) marked-long o (stands-same w marked o (λ k h. marked-other (outstandingAt + k) (λ e. omega arith)) s) small
+        let long′ : mountLength ≤ length marked = omega (arith, length-set w stateAt (flagCode (m .readonly))) in
+        outstanding-stands marked (m .outstanding) long′ o (stands-same w marked o (λ k h. marked-other (outstandingAt + k) (λ e. omega arith)) s) small
 
 assembled : (m : Mount) {v : Volume} {r : Bool} {o : Outstanding} → v ≡ m .volume → r ≡ m .readonly → o ≡ m .outstanding
     → record { volume = v; readonly = r; outstanding = o } ≡ m
@@ -372,7 +371,7 @@ unfolding possible mountFrom
 state-back w m h fixes small =
     let long : mountLength ≤ length w = leb-true _ _ (and-left _ _ h) in
     let good : goodVolume w ≡ true = search (and-left, and-right) depth 9 in
-    let v = volume-same w (withState w m) (state-before w m long) in
+    let v = volume-same w (withState w m) (λ k l. state-outside w m k (λ g. absurd (omega arith))) in
     let mark = state-mark w m long in
     let s = state-stands w m long (possible-stands w h) small in
     let state : goodState (withState w m) ≡ true = simp (mark, flag-small, s .flag, s .kind, s .number, s .command) in
@@ -386,7 +385,7 @@ state-stays w h =
     let flag : isFlag (word w 9) ≡ true = search (and-left, and-right) depth 9 in
     rw (flag-there (word w 9) flag, set-getD w 9 0) (outstanding-stays w (possible-stands w h))
 
--- words that hold a mount value hold another that fixes the same, once its state is put into them
+-- the words of a mount value, just as they are put for it, become those of another that fixes the same
 pub state-put : (m m′ : Mount) (rest : List ℕ) → m′ .volume ≡ m .volume → withState (mountWords m ++ rest) m′ ≡ mountWords m′ ++ rest
 unfolding withState mountWords
 state-put m m′ rest e = rw e (by (m .volume) (m .outstanding) (m′ .outstanding))

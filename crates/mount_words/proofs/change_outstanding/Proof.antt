@@ -1,3 +1,7 @@
+use mathlib.Core.Path.{_≡_}
+use mathlib.Core.Bool.{true, false, _||_}
+use Rattle.types.specs.Predicates.{isBusy}
+use Rattle.mount_words.specs.Words.{outstandingAt, word, flagFrom}
 use borrow.Author.Needs.{needs}
 use Rattle.mount_words.proofs.change_outstanding.Statement.{statement}
 use Rattle.mount_words.proofs.change_outstanding.Tie as tie
@@ -17,10 +21,15 @@ same-length c = search needs
 returns : tie.Need-returns
 returns c =
     let i = c .before .before .before .before in
-    rw (rw (i .before .before .is-busy .ensures) at (i .if1 .taken)) (c .before .before .put-outstanding .ensures)
+    let a = i .before .before .before .before .args in
+    let changes : isBusy (a .o) || flagFrom (word (a .w .now) outstandingAt) ≡ true = rw (i .before .before .is-busy .ensures) at (i .if1 .taken) in
+    rw changes (c .before .before .put-outstanding .ensures)
 
 returns-2 : tie.Need-returns-2
-returns-2 c = rw (rw (c .before .before .is-busy .ensures) at (c .if1 .left))
+returns-2 c =
+    let a = c .before .before .before .before .args in
+    let stays : isBusy (a .o) || flagFrom (word (a .w .now) outstandingAt) ≡ false = rw (c .before .before .is-busy .ensures) at (c .if1 .left) in
+    rw stays
 
 pub change-outstanding-spec : {M : Type 1} → statement M
 change-outstanding-spec =
