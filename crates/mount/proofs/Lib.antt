@@ -1,3 +1,4 @@
+pub mod Bounds
 pub mod Filling
 pub mod Mounted
 pub mod Tables

@@ -1,8 +1,8 @@
 -- A mount value in the words that a caller keeps: where each field stands, which words hold a mount value, and which one.
 use Prim.Native.Nat.{ℕ, _%_, _^_}
 use mathlib.Core.List.{List, [], _∷_, _++_}
-use mathlib.Core.Bool.{Bool, cond, not, _&&_}
-use lib.ListN.{length, getD}
+use mathlib.Core.Bool.{Bool, cond, not, _&&_, _||_}
+use lib.ListN.{length, getD, set}
 use lib.Seq.{sets}
 use lib.Dec.{leb, ltb, eqb}
 use Rattle.types.specs.declared.Mount.{Mount}
@@ -42,9 +42,12 @@ heldWords h = kindCode (h .kind) ∷ h .number ∷ commandCode (h .command .kind
 abbrev pub outstandingWords : Outstanding → List ℕ
 outstandingWords o = flagCode (isBusy o) ∷ heldWords (heldIn o)
 
--- where the words of its state stand
+-- where the words of its state stand, and of these those of what is outstanding
 abbrev pub stateAt : ℕ
 stateAt = 9
+
+abbrev pub outstandingAt : ℕ
+outstandingAt = 10
 
 -- words 9 to 15: the read-only mark, and what is outstanding
 abbrev pub stateWords : Mount → List ℕ
@@ -52,11 +55,6 @@ stateWords m = flagCode (m .readonly) ∷ outstandingWords (m .outstanding)
 
 unfoldable pub mountWords : Mount → List ℕ
 mountWords m = volumeWords (m .volume) ++ stateWords m
-
--- the words of a mount value with the state of another: those of what the mount fixes stand as they were. The law `state-put` says that words
--- which held a mount value then hold the other, which fixes the same
-unfoldable pub withState : List ℕ → Mount → List ℕ
-withState words m = sets words stateAt (stateWords m)
 
 -- ---- which words hold a mount value
 
@@ -124,3 +122,14 @@ outstandingFrom n h = cond (flagFrom n) (Busy h) Idle
 -- the mount value that possible words hold: the law `mount-back` says that words put by `mountWords` hold the mount value they were put for
 unfoldable pub mountFrom : List ℕ → Mount
 mountFrom w = record { volume = volumeFrom w; readonly = flagFrom (word w 9); outstanding = outstandingFrom (word w 10) (heldFrom w) }
+
+-- ---- the words with the state of another mount value
+
+-- "All but 7 change nothing": where nothing is outstanding, neither by these words nor then, they stay as they are, whatever stands behind the flag
+abbrev pub withOutstanding : List ℕ → Outstanding → List ℕ
+withOutstanding w o = cond (isBusy o || flagFrom (word w outstandingAt)) (sets w outstandingAt (outstandingWords o)) w
+
+-- the words of what the mount fixes stand as they were. The law `state-back` says that words which held a mount value then hold the other, which
+-- fixes the same, and `state-stays` that the state which they hold changes no word
+unfoldable pub withState : List ℕ → Mount → List ℕ
+withState w m = withOutstanding (set w stateAt (flagCode (m .readonly))) (m .outstanding)

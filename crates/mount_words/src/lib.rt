@@ -7,13 +7,14 @@ ghost use lib.Seq.{sets};
 ghost use mathlib.Core.List.{[], _∷_, _++_};
 ghost use Rattle.wire.specs.Le.{le, little};
 ghost use Rattle.answer_words.specs.Answers.{written};
-ghost use Rattle.mount_words.specs.Words.{mountLength, volumeWords, heldWords, outstandingWords, mountWords, withState, word, goodVolume, goodState, possible, shortOf, volumeFrom, heldFrom, outstandingFrom, mountFrom};
+ghost use Rattle.mount_words.specs.Words.{mountLength, volumeWords, heldWords, outstandingAt, outstandingWords, mountWords, word, goodVolume, goodState, possible, shortOf, volumeFrom, heldFrom, outstandingFrom, mountFrom, withOutstanding, withState};
 use types::Command;
 use types::Held;
 use types::Mount;
 use types::Outstanding;
 use types::Volume;
 use types::codes;
+use types::predicates;
 
 // The words of a mount value.
 pub const MOUNT_WORDS: usize = 16;
@@ -232,7 +233,7 @@ fn put_rest(
     bytes: u64,
 )
     requires { ⌜ mountLength ≤ length (now w) ⌝ }
-    ensures { λ _. ⌜ now (w .exit) ≡ sets (now (w .entry)) 10 (busy ∷ kind ∷ number ∷ command ∷ address ∷ bytes ∷ []) ⌝ }
+    ensures { λ _. ⌜ now (w .exit) ≡ sets (now (w .entry)) outstandingAt (busy ∷ kind ∷ number ∷ command ∷ address ∷ bytes ∷ []) ⌝ }
 {
     w[BUSY] = busy;
     w[KIND] = kind;
@@ -244,7 +245,7 @@ fn put_rest(
 
 fn put_held(w: &mut [u64], held: Held)
     requires { ⌜ mountLength ≤ length (now w) ⌝ }
-    ensures { λ _. ⌜ now (w .exit) ≡ sets (now (w .entry)) 10 (1 ∷ heldWords held) ⌝ }
+    ensures { λ _. ⌜ now (w .exit) ≡ sets (now (w .entry)) outstandingAt (1 ∷ heldWords held) ⌝ }
 {
     let kind = held.kind;
     let command = held.command;
@@ -264,7 +265,7 @@ fn put_held(w: &mut [u64], held: Held)
 
 fn put_outstanding(w: &mut [u64], o: Outstanding)
     requires { ⌜ mountLength ≤ length (now w) ⌝ }
-    ensures { λ _. ⌜ now (w .exit) ≡ sets (now (w .entry)) 10 (outstandingWords o) ⌝ }
+    ensures { λ _. ⌜ now (w .exit) ≡ sets (now (w .entry)) outstandingAt (outstandingWords o) ⌝ }
 {
     match o {
         Outstanding::Idle => put_rest(w, 0, 0, 0, 0, 0, 0),
@@ -272,22 +273,35 @@ fn put_outstanding(w: &mut [u64], o: Outstanding)
     }
 }
 
-// Puts the state of a mount value into the words.
+// Puts what is outstanding into words that hold a mount value. "All but 7 change nothing": where nothing is outstanding, before and after, no
+// word is written, so that what stands there stays.
+fn change_outstanding(w: &mut [u64], o: Outstanding)
+    requires { ⌜ mountLength ≤ length (now w) ⌝ }
+    ensures { λ _. ⌜ now (w .exit) ≡ withOutstanding (now (w .entry)) o ⌝ }
+{
+    if predicates::is_busy(o) | (w[BUSY] != 0) {
+        put_outstanding(w, o);
+    }
+}
+
+// Puts the state of a mount value into words that hold one.
 pub fn put_state(w: &mut [u64], m: Mount)
     requires { ⌜ mountLength ≤ length (now w) ⌝ }
     ensures { λ _. ⌜ now (w .exit) ≡ withState (now (w .entry)) m ⌝ }
 {
     let o = m.outstanding;
     w[READONLY] = codes::flag_code(m.readonly);
-    put_outstanding(w, o);
+    change_outstanding(w, o);
 }
 
-// Puts a mount value into the words.
+// Puts a mount value into the words, whatever stands there.
 pub fn put_mount(w: &mut [u64], m: Mount)
     requires { ⌜ mountLength ≤ length (now w) ⌝ }
     ensures { λ _. ⌜ now (w .exit) ≡ written (now (w .entry)) (mountWords m) ⌝ }
 {
     let v = m.volume;
+    let o = m.outstanding;
     put_volume(w, v);
-    put_state(w, m);
+    w[READONLY] = codes::flag_code(m.readonly);
+    put_outstanding(w, o);
 }

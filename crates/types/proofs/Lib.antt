@@ -4,3 +4,4 @@ pub mod NumberLaws
 pub mod PredicateLaws
 pub mod Tests
 pub mod VerdictLaws
+pub mod Volumes

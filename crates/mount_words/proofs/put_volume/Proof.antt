@@ -1,6 +1,14 @@
+use Prim.Native.Nat.{ℕ}
 use native.Mathlib.Omega.{arith}
+use mathlib.Core.Path.{_≡_}
+use mathlib.Core.List.{List, [], _∷_}
 use lib.ListN.{length-set}
+use lib.Seq.{sets}
 use borrow.Author.Needs.{needs}
+use Rattle.types.specs.declared.Volume.{Volume}
+use Rattle.types.specs.Codes.{policyCode}
+use Rattle.wire.specs.Le.{le}
+use Rattle.mount_words.specs.Words.{volumeWords}
 use Rattle.mount_words.proofs.put_volume.Statement.{statement}
 use Rattle.mount_words.proofs.put_volume.Tie as tie
 
@@ -58,8 +66,17 @@ slice-write-w-9 c = simp length-set (omega arith)
 same-length : tie.Need-same-length
 same-length c = simp length-set
 
+-- the words as they are stored, with those that callees gave
+stored : (w : List ℕ) (v : Volume) {code low high : ℕ} → code ≡ policyCode (v .policy) → low ≡ le 8 (v .uuid) 0 → high ≡ le 8 (v .uuid) 8
+    → sets w 0 (v .block ∷ v .conventional ∷ v .sequential ∷ v .owner ∷ v .group ∷ v .mode ∷ code ∷ low ∷ high ∷ []) ≡ sets w 0 (volumeWords v)
+stored w v a b c = rw (a, b, c)
+
 returns : tie.Need-returns
-returns c = cc
+returns c =
+    let p = c .before .before .before .before .before in
+    let a = p .before .before .before .before .before .args in
+    let code : p .before .before .policy-code .result ≡ policyCode (a .v .policy) = cc in
+    stored (a .w .now) (a .v) code (p .before .uuid-word .ensures) (p .uuid-word2 .ensures)
 
 pub put-volume-spec : {M : Type 1} → statement M
 put-volume-spec =
