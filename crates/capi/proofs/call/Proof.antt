@@ -1,6 +1,6 @@
-use mathlib.Core.Path.{_∙_, sym}
+use mathlib.Core.Path.{_∙_, sym, ap}
 use borrow.Author.Tests.{not-true, not-false}
-use Rattle.capi.specs.Interface.{stepWords}
+use Rattle.capi.specs.Interface.{told, stepWords}
 use borrow.Author.Needs.{needs}
 use Rattle.capi.proofs.call.Statement.{statement}
 use Rattle.capi.proofs.call.Tie as tie
@@ -36,7 +36,7 @@ returns-2 c = let e = sym (c .before .before .before .before .before .before .be
     let t = c .before .before .before .before .tell .ensures in
     let o = c .before .before .before .before .before .call .ensures in
     let m = c .before .before .before .before .before .before .before .before .mount-from .ensures in
-    rw (e, ← m, o) (t _ _)
+    rw (e, ← m) (ap (told _ _) o ∙ t _ _)
 
 pub call-spec : {M : Type 1} → statement M
 call-spec =
