@@ -7,27 +7,29 @@ use mathlib.Core.List.{List, _++_}
 use lib.ListN.{length}
 use borrow.Author.Tests.{le-leb}
 use Rattle.types.specs.declared.Mount.{Mount}
-use Rattle.types.specs.declared.Call.{Call}
 use Rattle.types.specs.Codes.{isKind, kindFrom}
+use Rattle.types.specs.Effects.{refusing}
 use Rattle.checks.specs.Checks.{noKind}
-use Rattle.calls.specs.Calls.{outcomeOf, refusedWith, outcomeBy}
-use Rattle.calls.proofs.Laws.{outcome-fixes}
-use Rattle.completion.specs.Completions.{Completion, effectOf}
-use Rattle.completion.proofs.Laws.{effect-fixes}
+use Rattle.calls.specs.Calls.{effectOf, effectBy}
+use Rattle.calls.proofs.Laws as calls
+use Rattle.completion.proofs.Laws as completions
+use Rattle.engine.specs.Engine.{State, Input, call, completion, step}
+use Rattle.engine.specs.Facts.{stateOf}
 use Rattle.mount_words.specs.Words.{mountWords}
 use Rattle.answer_words.specs.Answers.{answerLength}
 use Rattle.mount_words.proofs.Laws.{Valued, possible-back, mount-back, state-put}
-use Rattle.capi.specs.Interface.{usable, callWords, completionWords}
+use Rattle.capi.specs.Interface.{usable, stepWords}
 
--- A CALL KEEPS WHAT THE MOUNT FIXES, also one on a kind that is given as a number
+-- A STEP KEEPS WHAT THE MOUNT FIXES
 
-call-fixes : (m : Mount) (cnv seq : List ℕ) (n i : ℕ) (x : Call) → outcomeBy m cnv seq n i x .mount .volume ≡ m .volume
-unfolding outcomeBy
-call-fixes m cnv seq n i x = by (isKind n)
+step-fixes : (s : State) (x : Input) → step s x .state .mount .volume ≡ s .mount .volume
+unfolding step effectBy
+step-fixes s (call kind n x) = by (isKind kind)
   where
-    by : (b : Bool) → cond b (outcomeOf m cnv seq (kindFrom n) i x) (refusedWith m (noKind (m .volume) (length cnv) (length seq))) .mount .volume ≡ m .volume
-    by true = outcome-fixes m cnv seq (kindFrom n) i x
+    by : (t : Bool) → cond t (effectOf (s .mount) (s .cnv) (s .seq) (kindFrom kind) n x) (refusing (s .mount) (noKind (s .mount .volume) (length (s .cnv)) (length (s .seq)))) .outcome .mount .volume ≡ s .mount .volume
+    by true = calls.effect-fixes (s .mount) (s .cnv) (s .seq) (kindFrom kind) n x
     by false = refl
+step-fixes s (completion x) = completions.effect-fixes (s .mount) (s .cnv) (s .seq) x
 
 -- THE WORDS
 
@@ -36,10 +38,6 @@ module _ (m : Mount) (rest cnv seq a : List ℕ) (valued : Valued m) (room : ans
   unfolding usable
   held-usable = simp (possible-back m rest valued, le-leb _ _ room)
 
-  pub call-told : (n i : ℕ) (x : Call) → callWords (mountWords m ++ rest) cnv seq n i x a .mount ≡ mountWords (outcomeBy m cnv seq n i x .mount) ++ rest
-  unfolding callWords
-  call-told n i x = rw (held-usable, mount-back m rest valued) (state-put m _ rest (call-fixes m cnv seq n i x))
-
-  pub completion-told : (x : Completion) → completionWords (mountWords m ++ rest) cnv seq x a .mount ≡ mountWords (effectOf m cnv seq x .outcome .mount) ++ rest
-  unfolding completionWords
-  completion-told x = rw (held-usable, mount-back m rest valued) (state-put m _ rest (effect-fixes m cnv seq x))
+  pub step-told : (x : Input) → stepWords (mountWords m ++ rest) cnv seq x a .mount ≡ mountWords (step (stateOf m cnv seq) x .state .mount) ++ rest
+  unfolding stepWords
+  step-told x = rw (held-usable, mount-back m rest valued) (state-put m _ rest (step-fixes (stateOf m cnv seq) x))

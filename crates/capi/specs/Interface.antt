@@ -4,54 +4,19 @@ use mathlib.Core.List.{List}
 use mathlib.Core.Bool.{Bool, cond, _&&_}
 use lib.ListN.{length}
 use lib.Dec.{leb}
-use Rattle.types.specs.declared.Mount.{Mount}
-use Rattle.types.specs.declared.FileKind.the-variants.{Conventional, Sequential}
 use Rattle.types.specs.declared.Refusal.the-variants.{Impossible}
-use Rattle.types.specs.declared.Call.{Call}
-use Rattle.types.specs.declared.Outcome.{Outcome}
-use Rattle.types.specs.declared.MountAnswer.{MountAnswer}
 use Rattle.types.specs.declared.FindAnswer.{FindAnswer}
 use Rattle.types.specs.declared.ShowAnswer.{ShowAnswer}
 use Rattle.types.specs.Numbers.{refusalNumber, answerNumber, answerValues, mountNumber, mountValues, findNumber, findValues, showNumber, showValues}
 use Rattle.mount.specs.Mount.{Mounting, mountOutcome}
 use Rattle.inspect.specs.Find.{findOf}
 use Rattle.inspect.specs.Show.{showBy}
-use Rattle.calls.specs.Calls.{outcomeBy}
-use Rattle.completion.specs.declared.Effect.{Effect}
-use Rattle.completion.specs.Completions.{Completion, effectOf, stored}
+use Rattle.engine.specs.Engine.{Input, Step, step}
 use Rattle.answer_words.specs.Answers.{answerLength, answerWords, written}
 use Rattle.mount_words.specs.Words.{mountLength, mountWords, withState, possible, mountFrom}
 
--- ---- what a function that is lent a mount's words and an answer's gives: the number that it returns, and both after it
+-- ---- what a function that is lent a mount's words, both tables and an answer's words gives: the number that it returns, and these after it
 
-pub record Given : Type 0 where
-  pub number : ℕ
-  pub mount : List ℕ
-  pub answer : List ℕ
-
--- 10 "mount value .. impossible", with nothing written
-abbrev pub unwritten : List ℕ → List ℕ → Given
-unwritten w a = record { number = refusalNumber Impossible; mount = w; answer = a }
-
--- an outcome, told in words
-abbrev pub told : List ℕ → List ℕ → Outcome → Given
-told w a o =
-    record { number = answerNumber (o .answer); mount = withState w (o .mount); answer = written a (answerWords (answerValues (o .answer))) }
-
--- the words hold a mount value, and the answer has room
-unfoldable pub usable : List ℕ → ℕ → Bool
-usable w room = possible w && leb answerLength room
-
--- ---- calls
-
--- a call, with the mount's words and the answer's
-unfoldable pub callWords : List ℕ → List ℕ → List ℕ → ℕ → ℕ → Call → List ℕ → Given
-callWords w cnv seq kind i x a =
-    cond (usable w (length a)) (told w a (outcomeBy (mountFrom w) cnv seq kind i x)) (unwritten w a)
-
--- ---- completions
-
--- what a function that is lent both tables to change gives: these after it, too
 pub record Changed : Type 0 where
   pub number : ℕ
   pub mount : List ℕ
@@ -59,15 +24,31 @@ pub record Changed : Type 0 where
   pub seq : List ℕ
   pub answer : List ℕ
 
-abbrev pub withTables : List ℕ → List ℕ → Given → Changed
-withTables cnv seq g = record { number = g .number; mount = g .mount; cnv = cnv; seq = seq; answer = g .answer }
+-- 10 "mount value .. impossible", with nothing written
+abbrev pub unwritten : List ℕ → List ℕ → List ℕ → List ℕ → Changed
+unwritten w cnv seq a = record { number = refusalNumber Impossible; mount = w; cnv = cnv; seq = seq; answer = a }
 
-abbrev pub changedBy : List ℕ → List ℕ → List ℕ → List ℕ → Effect → Changed
-changedBy w cnv seq a e = withTables (stored Conventional (e .store) cnv) (stored Sequential (e .store) seq) (told w a (e .outcome))
+-- ---- calls and completions
 
-unfoldable pub completionWords : List ℕ → List ℕ → List ℕ → Completion → List ℕ → Changed
-completionWords w cnv seq x a =
-    cond (usable w (length a)) (changedBy w cnv seq a (effectOf (mountFrom w) cnv seq x)) (withTables cnv seq (unwritten w a))
+-- the words hold a mount value, and the answer has room
+unfoldable pub usable : List ℕ → ℕ → Bool
+usable w room = possible w && leb answerLength room
+
+-- a step of the engine, told in words
+abbrev pub told : List ℕ → List ℕ → Step → Changed
+told w a t =
+    record {
+      number = answerNumber (t .reply);
+      mount = withState w (t .state .mount);
+      cnv = t .state .cnv;
+      seq = t .state .seq;
+      answer = written a (answerWords (answerValues (t .reply)));
+    }
+
+-- a call or a completion, with the mount's words, both tables and the answer's words
+unfoldable pub stepWords : List ℕ → List ℕ → List ℕ → Input → List ℕ → Changed
+stepWords w cnv seq x a =
+    cond (usable w (length a)) (told w a (step (record { mount = mountFrom w; cnv = cnv; seq = seq }) x)) (unwritten w cnv seq a)
 
 -- ---- finding and showing: the mount's words are only read
 
@@ -95,13 +76,16 @@ showWords w cnv seq kind i a = cond (usable w (length a)) (toldShown a (showBy (
 unfoldable pub roomy : ℕ → ℕ → Bool
 roomy w a = leb mountLength w && leb answerLength a
 
-abbrev pub toldMounted : List ℕ → List ℕ → MountAnswer → Mount → Given
-toldMounted w a x m =
-    record { number = mountNumber x; mount = written w (mountWords m); answer = written a (answerWords (mountValues x)) }
-
-abbrev pub changedByMount : List ℕ → List ℕ → Mounting → Changed
-changedByMount w a o = withTables (o .cnv) (o .seq) (toldMounted w a (o .answer) (o .mount))
+abbrev pub toldMounted : List ℕ → List ℕ → Mounting → Changed
+toldMounted w a o =
+    record {
+      number = mountNumber (o .answer);
+      mount = written w (mountWords (o .mount));
+      cnv = o .cnv;
+      seq = o .seq;
+      answer = written a (answerWords (mountValues (o .answer)));
+    }
 
 unfoldable pub mountGiven : ℕ → List ℕ → List ℕ → List ℕ → List ℕ → List ℕ → List ℕ → List ℕ → Changed
 mountGiven block superblock options report cnv seq w a =
-    cond (roomy (length w) (length a)) (changedByMount w a (mountOutcome block superblock options report cnv seq)) (withTables cnv seq (unwritten w a))
+    cond (roomy (length w) (length a)) (toldMounted w a (mountOutcome block superblock options report cnv seq)) (unwritten w cnv seq a)

@@ -2,14 +2,17 @@
 // number, with its values in words that the caller lends. Any words whatever are taken: those that hold no mount value answer 10.
 ghost use mathlib.Core.Path.{_≡_};
 ghost use mathlib.Core.Bool.{true, not};
-ghost use Prim.Native.Nat.{_≤_};
+ghost use mathlib.Core.List.{List};
+ghost use Prim.Native.Nat.{ℕ, _≤_};
 ghost use lib.Dec.{eqb};
 ghost use lib.ListN.{length};
 ghost use Rattle.types.specs.declared.Call.{Call};
 ghost use Rattle.completion.specs.Completions.{Completion, completionOf, completionBy};
 ghost use Rattle.mount_words.specs.Words.{mountLength};
 ghost use Rattle.answer_words.specs.Answers.{answerLength};
-ghost use Rattle.capi.specs.Interface.{told, usable, callWords, completionWords, toldFound, findWords, toldShown, showWords, roomy, toldMounted, mountGiven};
+ghost use Rattle.engine.specs.Engine.{Input};
+ghost use Rattle.engine.specs.Facts.{stepOf};
+ghost use Rattle.capi.specs.Interface.{told, usable, stepWords, toldFound, findWords, toldShown, showWords, roomy, toldMounted, mountGiven};
 ghost use Rattle.crc32.specs.Crc.{crc32};
 use types::Call;
 use types::FindAnswer;
@@ -31,7 +34,7 @@ fn is_usable(w: &[u64], room: usize) -> bool
 // Puts an outcome into the words, and gives its number.
 fn tell(w: &mut [u64], a: &mut [u64], o: Outcome) -> u64
     requires { ⌜ (mountLength ≤ length (now w)) × (answerLength ≤ length (now a)) ⌝ }
-    ensures { λ r. ⌜ told (now (w .entry)) (now (a .entry)) o ≡ record { number = r; mount = now (w .exit); answer = now (a .exit) } ⌝ }
+    ensures { λ r. ⌜ ((cnv seq : List ℕ) → told (now (w .entry)) (now (a .entry)) (stepOf o cnv seq) ≡ record { number = r; mount = now (w .exit); cnv = cnv; seq = seq; answer = now (a .exit) }) ⌝ }
 {
     let m = o.mount;
     let x = o.answer;
@@ -50,13 +53,13 @@ fn call(
     x: Call,
     a: &mut [u64],
 ) -> u64
-    ensures { λ r. ⌜ callWords (now (w .entry)) (now (cnv .entry)) (now (seq .entry)) kind number x (now (a .entry)) ≡ record { number = r; mount = now (w .exit); answer = now (a .exit) } ⌝ }
+    ensures { λ r. ⌜ stepWords (now (w .entry)) (now (cnv .entry)) (now (seq .entry)) (Input.call kind number x) (now (a .entry)) ≡ record { number = r; mount = now (w .exit); cnv = now (cnv .entry); seq = now (seq .entry); answer = now (a .exit) } ⌝ }
 {
     if !is_usable(&w[..], a.len()) {
         return IMPOSSIBLE;
     }
     let m = mount_words::mount_from(&w[..]);
-    tell(w, a, calls::call_by(m, cnv, seq, kind as u64, number, x))
+    tell(w, a, engine::call(m, cnv, seq, kind as u64, number, x))
 }
 
 #[no_mangle]
@@ -70,7 +73,7 @@ pub extern "C" fn zonefs_read(
     length: u64,
     a: &mut [u64],
 ) -> u64
-    ensures { λ r. ⌜ callWords (now (w .entry)) (now (cnv .entry)) (now (seq .entry)) kind number (Call.Read offset length) (now (a .entry)) ≡ record { number = r; mount = now (w .exit); answer = now (a .exit) } ⌝ }
+    ensures { λ r. ⌜ stepWords (now (w .entry)) (now (cnv .entry)) (now (seq .entry)) (Input.call kind number (Call.Read offset length)) (now (a .entry)) ≡ record { number = r; mount = now (w .exit); cnv = now (cnv .entry); seq = now (seq .entry); answer = now (a .exit) } ⌝ }
 {
     call(w, cnv, seq, kind, number, Call::Read(offset, length), a)
 }
@@ -86,7 +89,7 @@ pub extern "C" fn zonefs_write(
     length: u64,
     a: &mut [u64],
 ) -> u64
-    ensures { λ r. ⌜ callWords (now (w .entry)) (now (cnv .entry)) (now (seq .entry)) kind number (Call.Write offset length) (now (a .entry)) ≡ record { number = r; mount = now (w .exit); answer = now (a .exit) } ⌝ }
+    ensures { λ r. ⌜ stepWords (now (w .entry)) (now (cnv .entry)) (now (seq .entry)) (Input.call kind number (Call.Write offset length)) (now (a .entry)) ≡ record { number = r; mount = now (w .exit); cnv = now (cnv .entry); seq = now (seq .entry); answer = now (a .exit) } ⌝ }
 {
     call(w, cnv, seq, kind, number, Call::Write(offset, length), a)
 }
@@ -101,7 +104,7 @@ pub extern "C" fn zonefs_truncate(
     target: u64,
     a: &mut [u64],
 ) -> u64
-    ensures { λ r. ⌜ callWords (now (w .entry)) (now (cnv .entry)) (now (seq .entry)) kind number (Call.Truncate target) (now (a .entry)) ≡ record { number = r; mount = now (w .exit); answer = now (a .exit) } ⌝ }
+    ensures { λ r. ⌜ stepWords (now (w .entry)) (now (cnv .entry)) (now (seq .entry)) (Input.call kind number (Call.Truncate target)) (now (a .entry)) ≡ record { number = r; mount = now (w .exit); cnv = now (cnv .entry); seq = now (seq .entry); answer = now (a .exit) } ⌝ }
 {
     call(w, cnv, seq, kind, number, Call::Truncate(target), a)
 }
@@ -115,7 +118,7 @@ pub extern "C" fn zonefs_flush(
     number: u32,
     a: &mut [u64],
 ) -> u64
-    ensures { λ r. ⌜ callWords (now (w .entry)) (now (cnv .entry)) (now (seq .entry)) kind number Call.Flush (now (a .entry)) ≡ record { number = r; mount = now (w .exit); answer = now (a .exit) } ⌝ }
+    ensures { λ r. ⌜ stepWords (now (w .entry)) (now (cnv .entry)) (now (seq .entry)) (Input.call kind number Call.Flush) (now (a .entry)) ≡ record { number = r; mount = now (w .exit); cnv = now (cnv .entry); seq = now (seq .entry); answer = now (a .exit) } ⌝ }
 {
     call(w, cnv, seq, kind, number, Call::Flush, a)
 }
@@ -130,17 +133,17 @@ fn end_command(
     given: bool,
     a: &mut [u64],
 ) -> u64
-    ensures { λ r. ⌜ completionWords (now (w .entry)) (now (cnv .entry)) (now (seq .entry)) (completionBy done given (now (bytes .entry))) (now (a .entry)) ≡ record { number = r; mount = now (w .exit); cnv = now (cnv .exit); seq = now (seq .exit); answer = now (a .exit) } ⌝ }
+    ensures { λ r. ⌜ stepWords (now (w .entry)) (now (cnv .entry)) (now (seq .entry)) (Input.completion (completionBy done given (now (bytes .entry)))) (now (a .entry)) ≡ record { number = r; mount = now (w .exit); cnv = now (cnv .exit); seq = now (seq .exit); answer = now (a .exit) } ⌝ }
 {
     if !is_usable(&w[..], a.len()) {
         return IMPOSSIBLE;
     }
     let m = mount_words::mount_from(&w[..]);
-    tell(
-        w,
-        a,
-        completion::end_command(m, cnv, seq, done, bytes, given),
-    )
+    if done {
+        tell(w, a, engine::complete(m, cnv, seq))
+    } else {
+        tell(w, a, engine::fail(m, cnv, seq, bytes, given))
+    }
 }
 
 // The outstanding command was done well.
@@ -151,7 +154,7 @@ pub extern "C" fn zonefs_complete(
     seq: &mut [u64],
     a: &mut [u64],
 ) -> u64
-    ensures { λ r. ⌜ completionWords (now (w .entry)) (now (cnv .entry)) (now (seq .entry)) Completion.good (now (a .entry)) ≡ record { number = r; mount = now (w .exit); cnv = now (cnv .exit); seq = now (seq .exit); answer = now (a .exit) } ⌝ }
+    ensures { λ r. ⌜ stepWords (now (w .entry)) (now (cnv .entry)) (now (seq .entry)) (Input.completion Completion.good) (now (a .entry)) ≡ record { number = r; mount = now (w .exit); cnv = now (cnv .exit); seq = now (seq .exit); answer = now (a .exit) } ⌝ }
 {
     end_command(w, cnv, seq, true, b"", false, a)
 }
@@ -166,7 +169,7 @@ pub extern "C" fn zonefs_fail(
     given: u32,
     a: &mut [u64],
 ) -> u64
-    ensures { λ r. ⌜ completionWords (now (w .entry)) (now (cnv .entry)) (now (seq .entry)) (completionOf (not (eqb given 0)) (now (bytes .entry))) (now (a .entry)) ≡ record { number = r; mount = now (w .exit); cnv = now (cnv .exit); seq = now (seq .exit); answer = now (a .exit) } ⌝ }
+    ensures { λ r. ⌜ stepWords (now (w .entry)) (now (cnv .entry)) (now (seq .entry)) (Input.completion (completionOf (not (eqb given 0)) (now (bytes .entry)))) (now (a .entry)) ≡ record { number = r; mount = now (w .exit); cnv = now (cnv .exit); seq = now (seq .exit); answer = now (a .exit) } ⌝ }
 {
     end_command(w, cnv, seq, false, bytes, given != 0, a)
 }
@@ -181,7 +184,7 @@ fn is_roomy(w: usize, a: usize) -> bool
 
 fn tell_mounted(w: &mut [u64], a: &mut [u64], o: MountOutcome) -> u64
     requires { ⌜ (mountLength ≤ length (now w)) × (answerLength ≤ length (now a)) ⌝ }
-    ensures { λ r. ⌜ toldMounted (now (w .entry)) (now (a .entry)) (o .answer) (o .mount) ≡ record { number = r; mount = now (w .exit); answer = now (a .exit) } ⌝ }
+    ensures { λ r. ⌜ ((cnv seq : List ℕ) → toldMounted (now (w .entry)) (now (a .entry)) (record { answer = o .answer; mount = o .mount; cnv = cnv; seq = seq }) ≡ record { number = r; mount = now (w .exit); cnv = cnv; seq = seq; answer = now (a .exit) }) ⌝ }
 {
     let m = o.mount;
     let x = o.answer;

@@ -15,7 +15,8 @@ use Rattle.tape_records.specs.declared.Record.{Record}
 use Rattle.tape_records.specs.declared.Record.the-variants.{OnFile, End, Broken}
 use Rattle.tape_records.specs.Records.{holds, recordBytes, recordOf, markAt, markedAt, recordAt}
 use Rattle.tape_lines.specs.Facts.{lineRoom}
-use Rattle.tape_turns.specs.Turns.{State, Rest, Turn, turnOf, turnAt}
+use Rattle.engine.specs.Engine.{State}
+use Rattle.tape_turns.specs.Turns.{Rest, Turn, turnOf, turnAt}
 use Rattle.tape.specs.Tape.{goesFurther, textFrom}
 use Rattle.tape.specs.Blocks.{longestRecord, isTold, hasRoom, isReady, lineThen, blockFrom}
 use Rattle.tape.proofs.Windows.{turn-follows}

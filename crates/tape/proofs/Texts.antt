@@ -14,7 +14,8 @@ use Rattle.types.proofs.Tests.{and-left, and-right, cases}
 use Rattle.tape_records.specs.declared.Record.{Record}
 use Rattle.tape_records.specs.declared.Record.the-variants.{OnFile, End, Broken}
 use Rattle.tape_records.specs.Records.{recordAt}
-use Rattle.tape_turns.specs.Turns.{State, Rest, turnOf, turnAt}
+use Rattle.engine.specs.Engine.{State}
+use Rattle.tape_turns.specs.Turns.{Rest, turnOf, turnAt}
 use Rattle.tape.specs.Tape.{goesFurther, textFrom}
 use Rattle.tape.specs.Blocks.{atFront}
 use Rattle.tape.proofs.Windows.{ahead, turn-before}

@@ -19,7 +19,8 @@ use Rattle.tape_records.specs.declared.Mark.the-variants as mark
 use Rattle.tape_records.specs.declared.Record.{Record}
 use Rattle.tape_records.specs.declared.Record.the-variants.{OnFile, End, Broken}
 use Rattle.tape_records.specs.Records.{holds, markBytes, failedBytes, callBytes, markAt, onFileAt, endRecord, recordBytes, recordOf, markedAt, recordAt}
-use Rattle.tape_turns.specs.Turns.{State, Turn, turn, turnOf, turnAt}
+use Rattle.engine.specs.Engine.{State}
+use Rattle.tape_turns.specs.Turns.{Turn, turn, turnOf, turnAt}
 use Rattle.tape.specs.Blocks.{longestRecord}
 
 -- as far as the longest record reaches, two places show the same bytes, and as many

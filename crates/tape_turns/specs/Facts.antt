@@ -2,17 +2,11 @@
 use Prim.Native.Nat.{ℕ, _+_, _≤_}
 use mathlib.Core.List.{List}
 use mathlib.Core.Path.{_≡_}
-use Rattle.types.specs.declared.Mount.{Mount}
-use Rattle.types.specs.declared.MountOutcome.{MountOutcome}
-use Rattle.mount.specs.Mount.{Mounting}
+use Rattle.engine.specs.Facts.{stateOf}
 use Rattle.tape_lines.specs.Facts.{lineRoom}
 use Rattle.tape_turns.specs.declared.Turned.{Turned}
 use Rattle.text.specs.Facts.{Put}
-use Rattle.tape_turns.specs.Turns.{State, Rest, Turn}
-
--- a mount value and both tables, as a state
-abbrev pub stateOf : Mount → List ℕ → List ℕ → State
-stateOf m cnv seq = record { mount = m; cnv = cnv; seq = seq }
+use Rattle.tape_turns.specs.Turns.{Rest, Turn}
 
 -- what a function handed back, with both tables as it left them
 abbrev pub restOf : Turned → List ℕ → List ℕ → Rest
@@ -23,10 +17,3 @@ pub record Takes (t : Turn) (before after : List ℕ) (to : ℕ) (r : Turned) (c
   pub line : Put before after to (r .to) (t .line)
   pub rest : restOf r cnv seq ≡ t .rest
   pub room : r .to ≤ to + lineRoom
-
--- a function mounted: what it handed back, with both tables as it left them
-pub record Mounts (o : Mounting) (r : MountOutcome) (cnv seq : List ℕ) : Type 0 where
-  pub answer : r .answer ≡ o .answer
-  pub mount : r .mount ≡ o .mount
-  pub cnvs : cnv ≡ o .cnv
-  pub seqs : seq ≡ o .seq

@@ -2,30 +2,20 @@
 use Prim.Native.Nat.{ℕ, _+_}
 use mathlib.Core.List.{List}
 use mathlib.Core.Bool.{Bool, true, false, cond}
-use Rattle.types.specs.declared.Mount.{Mount}
-use Rattle.types.specs.declared.FileKind.the-variants.{Conventional, Sequential}
 use Rattle.types.specs.declared.Call.{Call}
 use Rattle.types.specs.declared.MountAnswer.{MountAnswer}
 use Rattle.types.specs.declared.MountAnswer.the-variants.{Refused, Mounted}
-use Rattle.types.specs.declared.Outcome.{Outcome}
 use Rattle.types.specs.Mounts.{emptyMount}
 use Rattle.mount.specs.Mount.{Mounting, mountOutcome}
-use Rattle.calls.specs.Calls.{outcomeBy}
-use Rattle.completion.specs.declared.Effect.{Effect}
-use Rattle.completion.specs.Completions.{Completion, completionBy, stored, effectOf}
+use Rattle.completion.specs.Completions.{Completion, completionBy}
+use Rattle.engine.specs.Engine.{State, mounted, call, completion, Step, step}
 use Rattle.tape_records.specs.declared.Record.{Record}
 use Rattle.tape_records.specs.declared.Record.the-variants.{OnFile, End, Broken}
 use Rattle.tape_records.specs.declared.Mark.{Mark}
 use Rattle.tape_records.specs.Records.{callBytes, endMark, endBytes, endRecord, recordAt, opens, blockOf, superBytes, reportBytes, optionBytes, runPlace}
 use Rattle.tape_lines.specs.Lines.{callLine, completionLine, mountLine, brokenLine}
 
--- what each record finds: the mount value, and the words of both tables
-pub record State : Type 0 where
-  pub mount : Mount
-  pub cnv : List ℕ
-  pub seq : List ℕ
-
--- what a record leaves: whether the tape goes on, the place of the next record, and what that finds
+-- what a record leaves: whether the tape goes on, the place of the next record, and the state for it
 pub record Rest : Type 0 where
   pub more : Bool
   pub next : ℕ
@@ -43,30 +33,23 @@ turn line more next s = record { line = line; rest = record { more = more; next 
 abbrev pub brokenTurn : ℕ → State → Turn
 brokenTurn at s = turn brokenLine false at s
 
--- ---- a record after `MO`
+-- ---- a record after `MO`: one step of the engine, its line from the reply
 
-abbrev pub callTurn : ℕ → State → Call → Outcome → Turn
-callTurn next s x o = turn (callLine x (o .answer)) true next (record { mount = o .mount; cnv = s .cnv; seq = s .seq })
+abbrev pub callTurn : ℕ → Call → Step → Turn
+callTurn next x t = turn (callLine x (t .reply)) true next (t .state)
 
-abbrev pub completionTurn : Mark → ℕ → State → Effect → Turn
-completionTurn m next s e =
-    turn (completionLine m (e .outcome .answer)) true next
-    (record {
-      mount = e .outcome .mount;
-      cnv = stored Conventional (e .store) (s .cnv);
-      seq = stored Sequential (e .store) (s .seq);
-    })
+abbrev pub completionTurn : ℕ → Mark → Step → Turn
+completionTurn next m t = turn (completionLine m (t .reply)) true next (t .state)
 
 -- that the command was done, or "`NO` with 64 bytes (capacity always given)"
 abbrev pub completionAt : List ℕ → ℕ → Bool → Completion
 completionAt b at done = completionBy done true (endRecord done b at)
 
 abbrev pub endTurn : List ℕ → ℕ → State → Bool → Turn
-endTurn b at s done =
-    completionTurn (endMark done) (at + endBytes done) s (effectOf (s .mount) (s .cnv) (s .seq) (completionAt b at done))
+endTurn b at s done = completionTurn (at + endBytes done) (endMark done) (step s (completion (completionAt b at done)))
 
 abbrev pub turnOf : List ℕ → ℕ → State → Record → Turn
-turnOf b at s (OnFile kind number x) = callTurn (at + callBytes) s x (outcomeBy (s .mount) (s .cnv) (s .seq) kind number x)
+turnOf b at s (OnFile kind number x) = callTurn (at + callBytes) x (step s (call kind number x))
 turnOf b at s (End done) = endTurn b at s done
 turnOf b at s Broken = brokenTurn at s
 
@@ -81,7 +64,7 @@ goesOn (Refused r) = false
 goesOn (Mounted cnvs seqs) = true
 
 abbrev pub mountTurn : ℕ → Mounting → Turn
-mountTurn next o = turn (mountLine (o .answer)) (goesOn (o .answer)) next (record { mount = o .mount; cnv = o .cnv; seq = o .seq })
+mountTurn next o = turn (mountLine (o .answer)) (goesOn (o .answer)) next (mounted o)
 
 abbrev pub mounting : List ℕ → List ℕ → List ℕ → Mounting
 mounting b cnv seq = mountOutcome (blockOf b) (superBytes b) (optionBytes b) (reportBytes b) cnv seq

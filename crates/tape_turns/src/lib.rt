@@ -1,20 +1,24 @@
 // One record of a tape: what it does, the line that it prints, and what it leaves.
 ghost use mathlib.Core.Path.{_≡_};
+ghost use mathlib.Core.Bool.{true};
 ghost use mathlib.Core.List.{List};
 ghost use Prim.Native.Nat.{ℕ, _+_, _≤_};
 ghost use lib.ListN.{length};
-ghost use Rattle.calls.specs.Calls.{outcomeBy};
+ghost use Rattle.completion.specs.Completions.{completionBy};
+ghost use Rattle.engine.specs.Engine.{Input, step};
+ghost use Rattle.engine.specs.Facts.{stateOf, stepOf};
 ghost use Rattle.tape_records.specs.Records.{endBytes, runPlace};
 ghost use Rattle.tape_records.specs.Facts.{Opened};
 ghost use Rattle.tape_turns.specs.Turns.{callTurn, endTurn, brokenTurn, mountTurn, turnAt, goesOn, mounting, openTurn};
 ghost use Rattle.tape_lines.specs.Facts.{lineRoom};
-ghost use Rattle.tape_turns.specs.Facts.{stateOf, Takes, Mounts};
+ghost use Rattle.tape_turns.specs.Facts.{Takes};
 use tape_records::CALL_BYTES;
 use tape_records::Record;
 use types::Call;
 use types::Mount;
 use types::MountAnswer;
 use types::MountOutcome;
+use types::Outcome;
 
 // What a record left: the place after its line, whether the tape goes on, the place of the next record, and the mount.
 pub struct Turned {
@@ -37,9 +41,9 @@ fn call_turn(
     to: usize,
 ) -> Turned
     requires { ⌜ to + lineRoom ≤ length (now out) ⌝ }
-    ensures { λ r. ⌜ Takes (callTurn next (stateOf m (now (cnv .entry)) (now (seq .entry))) x (outcomeBy m (now (cnv .entry)) (now (seq .entry)) kind number x)) (now (out .entry)) (now (out .exit)) to r (now (cnv .entry)) (now (seq .entry)) ⌝ }
+    ensures { λ r. ⌜ Takes (callTurn next x (step (stateOf m (now (cnv .entry)) (now (seq .entry))) (Input.call kind number x))) (now (out .entry)) (now (out .exit)) to r (now (cnv .entry)) (now (seq .entry)) ⌝ }
 {
-    let o = calls::call_by(m, cnv, seq, kind as u64, number, x);
+    let o = engine::call(m, cnv, seq, kind as u64, number, x);
     let answer = o.answer;
     let mount = o.mount;
     let end = tape_lines::put_call_line(out, to, x, answer);
@@ -65,6 +69,17 @@ fn broken_turn(at: usize, m: Mount, out: &mut [u8], to: usize) -> Turned
     }
 }
 
+// The end of a command: it was done, or it failed, and a tape's record always states a capacity.
+fn end_command(m: Mount, cnv: &mut [u64], seq: &mut [u64], done: bool, bytes: &[u8]) -> Outcome
+    ensures { λ r. ⌜ step (stateOf m (now (cnv .entry)) (now (seq .entry))) (Input.completion (completionBy done true (now (bytes .entry)))) ≡ stepOf r (now (cnv .exit)) (now (seq .exit)) ⌝ }
+{
+    if done {
+        engine::complete(m, cnv, seq)
+    } else {
+        engine::fail(m, cnv, seq, bytes, true)
+    }
+}
+
 // The turn of the end of a command, that it was done or that it failed.
 fn end_turn(
     b: &[u8],
@@ -82,7 +97,7 @@ fn end_turn(
     let next = at + tape_records::end_bytes(done);
     let record = tape_records::end_record(b, at, done);
     let mark = tape_records::end_mark(done);
-    let o = completion::end_command(m, cnv, seq, done, record, true);
+    let o = end_command(m, cnv, seq, done, record);
     let answer = o.answer;
     let mount = o.mount;
     let end = tape_lines::put_completion_line(out, to, mark, answer);
@@ -139,7 +154,7 @@ fn goes_on(a: MountAnswer) -> bool
 // Mounts from the first four records.
 fn mount_from(b: &[u8], cnv: &mut [u64], seq: &mut [u64]) -> MountOutcome
     requires { ⌜ Opened (now b) ⌝ }
-    ensures { λ r. ⌜ Mounts (mounting (now (b .entry)) (now (cnv .entry)) (now (seq .entry))) r (now (cnv .exit)) (now (seq .exit)) ⌝ }
+    ensures { λ r. ⌜ mounting (now (b .entry)) (now (cnv .entry)) (now (seq .entry)) ≡ record { answer = r .answer; mount = r .mount; cnv = now (cnv .exit); seq = now (seq .exit) } ⌝ }
 {
     let block = tape_records::block_of(b);
     let super_block = tape_records::super_bytes(b);

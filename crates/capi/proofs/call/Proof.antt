@@ -1,6 +1,6 @@
-use mathlib.Core.Path.{_∙_, sym}
+use mathlib.Core.Path.{_∙_, sym, ap}
 use borrow.Author.Tests.{not-true, not-false}
-use Rattle.capi.specs.Interface.{callWords}
+use Rattle.capi.specs.Interface.{told, stepWords}
 use borrow.Author.Needs.{needs}
 use Rattle.capi.proofs.call.Statement.{statement}
 use Rattle.capi.proofs.call.Tie as tie
@@ -12,14 +12,14 @@ same-length : tie.Need-same-length
 same-length c = search needs
 
 returns : tie.Need-returns
-unfolding callWords
+unfolding stepWords
 returns c = rw (sym (c .before .is-usable .ensures .0) ∙ not-true _ (c .if1 .taken))
 
 mount-from-requires : tie.Need-mount-from-requires
 mount-from-requires c κs = c .before .before .is-usable .ensures .1 (not-false _ (c .before .if1 .left)) .0
 
-call-by-requires : tie.Need-call-by-requires
-call-by-requires c κs = search needs
+call-requires : tie.Need-call-requires
+call-requires c κs = search needs
 
 tell-requires : tie.Need-tell-requires
 tell-requires c κs = c .before .before .before .before .before .before .is-usable .ensures .1 (not-false _ (c .before .before .before .before .before .if1 .left))
@@ -31,12 +31,12 @@ same-length-3 : tie.Need-same-length-3
 same-length-3 c = search needs
 
 returns-2 : tie.Need-returns-2
-unfolding callWords
+unfolding stepWords
 returns-2 c = let e = sym (c .before .before .before .before .before .before .before .before .before .before .before .is-usable .ensures .0) ∙ not-false _ (c .before .before .before .before .before .before .before .before .before .before .if1 .left) in
     let t = c .before .before .before .before .tell .ensures in
-    let o = c .before .before .before .before .before .call-by .ensures in
+    let o = c .before .before .before .before .before .call .ensures in
     let m = c .before .before .before .before .before .before .before .before .mount-from .ensures in
-    rw (e, ← m, ← o) t
+    rw (e, ← m) (ap (told _ _) o ∙ t _ _)
 
 pub call-spec : {M : Type 1} → statement M
 call-spec =
@@ -46,7 +46,7 @@ call-spec =
     same-length
     returns
     mount-from-requires
-    call-by-requires
+    call-requires
     tell-requires
     same-length-2
     same-length-3

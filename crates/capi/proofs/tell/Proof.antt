@@ -23,7 +23,7 @@ same-length-2 c = search needs
 
 returns : tie.Need-returns
 unfolding answerWords
-returns c = simp (c .answer-number .ensures, c .before .before .before .before .before .before .before .before .put-state .ensures, c .before .before .before .put-values .ensures, c .before .before .before .before .answer-values .ensures)
+returns c = λ cnv seq. simp (c .answer-number .ensures, c .before .before .before .before .before .before .before .before .put-state .ensures, c .before .before .before .put-values .ensures, c .before .before .before .before .answer-values .ensures)
 
 pub tell-spec : {M : Type 1} → statement M
 tell-spec =

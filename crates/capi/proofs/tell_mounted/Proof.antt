@@ -23,7 +23,7 @@ same-length-2 c = search needs
 
 returns : tie.Need-returns
 unfolding answerWords
-returns c = simp (c .mount-number .ensures, c .before .before .before .before .before .before .before .before .put-mount .ensures, c .before .before .before .put-values .ensures, c .before .before .before .before .mount-values .ensures)
+returns c = λ cnv seq. simp (c .mount-number .ensures, c .before .before .before .before .before .before .before .before .put-mount .ensures, c .before .before .before .put-values .ensures, c .before .before .before .before .mount-values .ensures)
 
 pub tell-mounted-spec : {M : Type 1} → statement M
 tell-mounted-spec =

@@ -1,4 +1,3 @@
-use Rattle.capi.proofs.Tables.{with-tables}
 use mathlib.Core.Path.{_∙_, sym}
 use borrow.Author.Tests.{not-true, not-false}
 use Rattle.capi.specs.Interface.{mountGiven}
@@ -36,7 +35,7 @@ unfolding mountGiven
 returns-2 c = let e = sym (c .before .before .before .before .before .before .before .before .before .before .before .before .before .before .before .is-roomy .ensures .0) ∙ not-false _ (c .before .before .before .before .before .before .before .before .before .before .before .before .before .before .if1 .left) in
     let t = c .before .before .before .before .tell-mounted .ensures in
     let o = c .before .before .before .before .before .before .before .before .before .mount .ensures in
-    rw (e, ← o .0, ← o .1 .0) (with-tables t (o .1 .1 .0) (o .1 .1 .1))
+    rw (e, ← o .0, ← o .1 .0, ← o .1 .1 .0, ← o .1 .1 .1) (t _ _)
 
 pub zonefs-mount-spec : {M : Type 1} → statement M
 zonefs-mount-spec =

@@ -3,8 +3,8 @@ use borrow.Author.Needs.{needs}
 use Rattle.tape_turns.proofs.call_turn.Statement.{statement}
 use Rattle.tape_turns.proofs.call_turn.Tie as tie
 
-call-by-requires : tie.Need-call-by-requires
-call-by-requires c κs = tt
+call-requires : tie.Need-call-requires
+call-requires c κs = tt
 
 put-call-line-requires : tie.Need-put-call-line-requires
 put-call-line-requires c κs = search needs
@@ -13,11 +13,11 @@ same-length : tie.Need-same-length
 same-length c = search needs
 
 returns : tie.Need-returns
-returns c = rw (← c .before .before .before .before .before .call-by .ensures) (record {
+returns c = rw (c .before .before .before .before .before .call .ensures) (record {
   line = c .before .before .put-call-line .ensures .0;
   rest = refl;
   room = c .before .before .put-call-line .ensures .1;
 })
 
 pub call-turn-spec : {M : Type 1} → statement M
-call-turn-spec = tie.close (tie.spec call-by-requires put-call-line-requires same-length returns)
+call-turn-spec = tie.close (tie.spec call-requires put-call-line-requires same-length returns)

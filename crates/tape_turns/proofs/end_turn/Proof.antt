@@ -1,5 +1,4 @@
-use Rattle.tape_turns.specs.Facts.{stateOf}
-use Rattle.tape_turns.proofs.Turns.{ended}
+use mathlib.Core.Path.{refl}
 use borrow.Author.Needs.{needs}
 use Rattle.tape_turns.proofs.end_turn.Statement.{statement}
 use Rattle.tape_turns.proofs.end_turn.Tie as tie
@@ -32,8 +31,9 @@ same-length-3 : tie.Need-same-length-3
 same-length-3 c = search needs
 
 returns : tie.Need-returns
-returns c = let a = c .before .before .before .before .before .before .before .before .before .before .before .before .before .before .before .before .before .before .before .args in
-    ended (a .b .now) (a .at) (c .before .before .before .before .before .before .before .before .before .before .before .before .before .before .end-bytes .result) (c .before .before .before .before .before .before .before .before .before .before .before .before .before .end-record .result .now) (stateOf (a .m) (a .cnv .now) (a .seq .now)) (a .done) (c .before .before .before .before .before .before .before .before .before .before .before .before .before .before .end-bytes .ensures .0) (c .before .before .before .before .before .before .before .before .before .before .before .before .before .end-record .ensures) (c .before .before .before .before .before .before .before .before .before .before .before .before .end-mark .ensures) (c .before .before .put-completion-line .ensures) (c .before .before .before .before .before .before .before .before .before .end-command .ensures)
+returns c = let put = c .before .before .put-completion-line .ensures in
+    rw (← c .before .before .before .before .before .before .before .before .before .before .before .before .before .end-record .ensures, ← c .before .before .before .before .before .before .before .before .before .before .before .before .before .before .end-bytes .ensures .0, ← c .before .before .before .before .before .before .before .before .before .before .before .before .end-mark .ensures, c .before .before .before .before .before .before .before .before .before .end-command .ensures)
+    (record { line = put .0; rest = refl; room = put .1 })
 
 pub end-turn-spec : {M : Type 1} → statement M
 end-turn-spec =

@@ -29,7 +29,7 @@ same-length-2 c = search needs
 returns : tie.Need-returns
 returns c = let m = c .before .before .before .before .mount .ensures in
     rw (← c .before .before .before .before .before .before .before .before .before .before .block-of .ensures, ← c .before .before .before .before .before .before .before .before .before .super-bytes .ensures, ← c .before .before .before .before .before .before .before .before .option-bytes .ensures, ← c .before .before .before .before .before .before .before .report-bytes .ensures)
-    (record { answer = m .0; mount = m .1 .0; cnvs = m .1 .1 .0; seqs = m .1 .1 .1 })
+    (simp (m .0, m .1 .0, m .1 .1 .0, m .1 .1 .1))
 
 pub mount-from-spec : {M : Type 1} → statement M
 mount-from-spec =

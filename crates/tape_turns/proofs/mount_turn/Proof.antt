@@ -1,7 +1,4 @@
-use mathlib.Core.Path.{ap, _∙_}
-use Rattle.tape_lines.specs.Lines.{mountLine}
-use Rattle.tape_turns.specs.Turns.{goesOn}
-use Rattle.tape_turns.proofs.Turns.{takes}
+use mathlib.Core.Path.{refl}
 use borrow.Author.Needs.{needs}
 use Rattle.tape_turns.proofs.mount_turn.Statement.{statement}
 use Rattle.tape_turns.proofs.mount_turn.Tie as tie
@@ -28,9 +25,9 @@ same-length-3 : tie.Need-same-length-3
 same-length-3 c = search needs
 
 returns : tie.Need-returns
-returns c = let o = c .before .before .before .before .before .before .before .before .before .before .mount-from .ensures in
-    let p = c .before .before .put-mount-line .ensures in
-    takes (p .0) (ap mountLine (o .answer)) (c .before .before .before .before .goes-on .ensures ∙ ap goesOn (o .answer)) (c .before .before .before .before .before .before .before .before .before .before .before .before .before .run-place .ensures) (o .mount) (o .cnvs) (o .seqs) (p .1)
+returns c = let put = c .before .before .put-mount-line .ensures in
+    rw (c .before .before .before .before .before .before .before .before .before .before .mount-from .ensures, ← c .before .before .before .before .goes-on .ensures, ← c .before .before .before .before .before .before .before .before .before .before .before .before .before .run-place .ensures)
+    (record { line = put .0; rest = refl; room = put .1 })
 
 pub mount-turn-spec : {M : Type 1} → statement M
 mount-turn-spec =
