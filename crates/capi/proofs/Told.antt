@@ -20,17 +20,6 @@ use Rattle.answer_words.specs.Answers.{answerLength}
 use Rattle.mount_words.proofs.Laws.{Valued, possible-back, mount-back, state-put}
 use Rattle.capi.specs.Interface.{usable, stepWords}
 
--- A STEP KEEPS WHAT THE MOUNT FIXES
-
-step-fixes : (s : State) (x : Input) → step s x .state .mount .volume ≡ s .mount .volume
-unfolding step effectBy
-step-fixes s (call kind n x) = by (isKind kind)
-  where
-    by : (t : Bool) → cond t (effectOf (s .mount) (s .cnv) (s .seq) (kindFrom kind) n x) (refusing (s .mount) (noKind (s .mount .volume) (length (s .cnv)) (length (s .seq)))) .outcome .mount .volume ≡ s .mount .volume
-    by true = calls.effect-fixes (s .mount) (s .cnv) (s .seq) (kindFrom kind) n x
-    by false = refl
-step-fixes s (completion x) = completions.effect-fixes (s .mount) (s .cnv) (s .seq) x
-
 -- THE WORDS
 
 module _ (m : Mount) (rest cnv seq a : List ℕ) (valued : Valued m) (room : answerLength ≤ length a) where

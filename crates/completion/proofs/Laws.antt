@@ -11,7 +11,9 @@ use Rattle.types.specs.declared.Held.{Held}
 use Rattle.types.specs.declared.Effect.{Effect}
 use Rattle.types.specs.Effects.{refusing}
 use Rattle.types.specs.declared.Refusal.the-variants as refusal
+use Rattle.types.specs.declared.Outstanding.{Outstanding}
 use Rattle.types.specs.declared.Outstanding.the-variants.{Idle}
+use Rattle.types.specs.Mounts.{cleared}
 use Rattle.types.specs.declared.ErrorPolicy.{ErrorPolicy}
 use Rattle.types.specs.declared.ErrorPolicy.the-variants.{RemountRo, ZoneRo, ZoneOffline, Repair}
 use Rattle.table.specs.Facts.{StoreFits}
@@ -76,3 +78,26 @@ pending-fixes m (On h r) Completion.malformed = refl
 pub effect-fixes : (m : Mount) (cnv seq : List ℕ) (x : Completion) → effectOf m cnv seq x .outcome .mount .volume ≡ m .volume
 unfolding effectOf
 effect-fixes m cnv seq x = pending-fixes m (pendingOf m cnv seq) x
+
+-- WHAT IS OUTSTANDING after a completion was so before, or is nothing.
+marked-holds : (p : ErrorPolicy) (m : Mount) → markedBy p m .outstanding ≡ m .outstanding
+marked-holds RemountRo m = refl
+marked-holds ZoneRo m = refl
+marked-holds ZoneOffline m = refl
+marked-holds Repair m = refl
+
+module _ (P : Outstanding → Type 0) (m : Mount) (cnv seq : List ℕ) (old : P (m .outstanding)) (idle : P Idle) where
+  pending-holds : (p : Pending) (x : Completion) → P (effectPending m p x .outcome .mount .outstanding)
+  unfolding succeeded recovered
+  pending-holds (Refused y) x = old
+  pending-holds (On h r) Completion.good = idle
+  pending-holds (On h r) (Completion.failed z) =
+      let Q : Effect → Type 0 = λ d. P (d .outcome .mount .outstanding) in
+      either Q (recordFits (m .volume .block) (h .kind) r z) _ _
+      (either Q (nothingLost (h .kind) (h .command .kind) z (r .size)) _ _ idle (rw (marked-holds (m .volume .policy) (cleared m)) idle))
+      old
+  pending-holds (On h r) Completion.malformed = old
+
+  pub effect-holds : (x : Completion) → P (effectOf m cnv seq x .outcome .mount .outstanding)
+  unfolding effectOf
+  effect-holds x = pending-holds (pendingOf m cnv seq) x

@@ -20,6 +20,7 @@ use Rattle.types.specs.declared.Outstanding.the-variants.{Idle}
 use Rattle.types.specs.Kinds.{ofKind}
 use Rattle.types.specs.Mounts.{cleared}
 use Rattle.table.specs.Rows.{rowsLent, setRow, stored}
+use Rattle.table.proofs.Stores.{stored-either}
 use Rattle.zones.specs.declared.Zone.{Zone}
 use Rattle.recovery.specs.Success.{rowAfter}
 use Rattle.recovery.specs.Fits.{recordFits}
@@ -42,13 +43,6 @@ pub record Completed (m : Mount) (c s : List ℕ) (k : FileKind) (n : ℕ) (new 
   pub idle : d .outcome .mount .outstanding ≡ Idle
   pub here : Became (ofKind k c s) n new (stored k (d .store) (ofKind k c s))
   pub other : (j : FileKind) (t : List ℕ) → (k ≡ j → ⊥) → stored j (d .store) t ≡ t
-
--- a store changes the table of its kind, and no other
-pub stored-either : (P : List ℕ → Type 0) (k : FileKind) (n : ℕ) (r : Row) (j : FileKind) (t : List ℕ) → (k ≡ j → P (setRow t n r)) → P t → P (stored j (store.Put k n r) t)
-stored-either P Conventional n r Conventional t here there = here refl
-stored-either P Conventional n r Sequential t here there = there
-stored-either P Sequential n r Conventional t here there = there
-stored-either P Sequential n r Sequential t here there = here refl
 
 stored-here : (k : FileKind) (n : ℕ) (r : Row) (t : List ℕ) → n < rowsLent (length t) → Became t n r (stored k (store.Put k n r) t)
 stored-here Conventional n r t h = set-became t n r h

@@ -8,7 +8,6 @@ pub mod Successes
 pub mod Failures
 pub mod Doings
 pub mod Promised
-pub mod Frame
 pub mod Bridge
 pub mod Files
 pub mod Fits

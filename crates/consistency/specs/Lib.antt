@@ -2,6 +2,5 @@ pub mod FileHistory
 pub mod System
 pub mod Claim
 pub mod Demand
-pub mod Frame
 pub mod Cases
 pub mod Runs

@@ -226,10 +226,10 @@ module _ (under : Setting → ErrorPolicy → Mounting) where
       -- a conventional file takes a write anywhere, and its size never moves; under remount-ro its failure marks the mount too
       ∷ is (seenOf cnvSeen (startIn paper RemountRo) (cnv0 (Call.Write 8192 100) ∷ done ∷ [])) (truly (0 ∷ 0 ∷ []) (268435456 ∷ 2 ∷ 0 ∷ 0 ∷ 0 ∷ 0 ∷ 0 ∷ 0 ∷ []))
       ∷ is (seenOf cnvSeen (startIn paper RemountRo) (cnv0 (Call.Write 8192 100) ∷ fails 0 (falls 0) (zone 1 1 0 524288 9) ∷ []))
-          (truly (0 ∷ 7 ∷ []) (268435456 ∷ 2 ∷ 0 ∷ 0 ∷ 0 ∷ 0 ∷ 0 ∷ 1 ∷ []))
+      (truly (0 ∷ 7 ∷ []) (268435456 ∷ 2 ∷ 0 ∷ 0 ∷ 0 ∷ 0 ∷ 0 ∷ 1 ∷ []))
       -- an aggregated run: the zone at the command's address is its second
       ∷ is (seenOf cnvSeen (startIn aggregated Repair) (cnv0 (Call.Write 268435456 4096) ∷ fails 0 (worsens toReadOnly) (zone 2 1 13 524288 0) ∷ []))
-          (truly (0 ∷ 7 ∷ []) (536870912 ∷ 1 ∷ 0 ∷ 0 ∷ 1 ∷ 0 ∷ 0 ∷ 0 ∷ []))
+      (truly (0 ∷ 7 ∷ []) (536870912 ∷ 1 ∷ 0 ∷ 0 ∷ 1 ∷ 0 ∷ 0 ∷ 0 ∷ []))
       ∷ []
 
 -- the runs are of those that demand 3 speaks of, and each ends as its table says

@@ -134,7 +134,7 @@ reportCases =
     ∷ is (shown 2 2 808 (seqZone 808 ReadOnly)) (0 ∷ [])
     -- "the zone at its address"
     ∷ is (map (λ (n : ℕ). zoneHolding (record { kind = Conventional; start = 0; length = 800; capacity = 800; pointer = 0; condition = Healthy } ∷ seqZone 800 Healthy ∷ []) (bytesOf n)) (0 ∷ 799 ∷ 800 ∷ 1439 ∷ []))
-        (0 ∷ 0 ∷ 1 ∷ 1 ∷ [])
+    (0 ∷ 0 ∷ 1 ∷ 1 ∷ [])
     ∷ []
 
 -- THE CLAIM: each case gives what is stated.

@@ -4,7 +4,7 @@
 use Prim.Native.Nat.{ℕ, zero, suc, _+_, _/_, _%_, _^_, _≤_, _<_}
 use native.Mathlib.Omega.{arith}
 use native.Mathlib.Numerals.{add-one}
-use native.Mathlib.Nat.{mod-eq-of-lt, mod-lt, pow-suc}
+use native.Mathlib.Nat.{mod-eq-of-lt, mod-lt}
 use mathlib.Core.Path.{_≡_, refl, _∙_, ap, sym}
 use mathlib.Core.Bool.{Bool, true, false, cond, _||_}
 use mathlib.Core.List.{List, [], _∷_, _++_, append-assoc}
@@ -85,12 +85,6 @@ command-there (suc (suc (suc (suc (suc n))))) h = absurd (omega (arith, ltb-true
 pub byte-put : (b : List ℕ) (at k x : ℕ) → sets (set b at (x % 256)) (at + 1) (little k (x / 256)) ≡ sets b at (little (suc k) x)
 unfolding little
 byte-put b at k x = ap (λ (n : ℕ). sets (set b at (x % 256)) n (little k (x / 256))) (add-one at)
-
--- a number of n bytes is below 256 ^ n
-pub le-below : (n : ℕ) (b : List ℕ) (at : ℕ) → ((k : ℕ) → getD b k 0 < 256) → le n b at < 256 ^ n
-unfolding le
-le-below zero b at small = omega arith
-le-below (suc n) b at small = omega (arith, small at, le-below n b (at + 1) small, pow-suc 256 n)
 
 uuid-back : (u : List ℕ) → ((k : ℕ) → getD u k 0 < 256) → length u ≡ 16 → little 8 (le 8 u 0) ++ little 8 (le 8 u 8) ≡ u
 uuid-back u small h =

@@ -24,6 +24,12 @@ le-add (suc m) n b at =
     let high : 256 * (256 ^ m * le n b (at + 1 + m)) ≡ 256 ^ suc m * le n b (at + suc m) = rw (far, pow-suc, mul-comm (256 ^ m) 256, mul-assoc) in
     omega (arith, ap (λ (k : ℕ). le k b at) (suc-add m n), le-add m n b (at + 1))
 
+-- a number of n bytes is below 256 ^ n
+pub le-below : (n : ℕ) (b : List ℕ) (at : ℕ) → ((k : ℕ) → getD b k 0 < 256) → le n b at < 256 ^ n
+unfolding le
+le-below zero b at small = omega arith
+le-below (suc n) b at small = omega (arith, small at, le-below n b (at + 1) small, pow-suc 256 n)
+
 -- THERE AND BACK
 
 le-cons : (n x : ℕ) (l : List ℕ) (k : ℕ) → le n (x ∷ l) (suc k) ≡ le n l k

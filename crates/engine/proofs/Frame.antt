@@ -40,11 +40,11 @@ use Rattle.types.specs.declared.Effect.{Effect}
 use Rattle.types.specs.Effects.{refusing}
 use Rattle.completion.specs.Completions.{Completion, good, failed, malformed, succeeded, recovered, recovering, failing, effectOn, effectPending, effectOf}
 use Rattle.completion.proofs.Laws.{effect-fixes}
 use Rattle.engine.specs.Engine.{State, Step, applied, stepBy, step}
 use Rattle.engine.specs.Facts.{stepOf}
 use Rattle.engine.proofs.Laws.{call-steps}
-use Rattle.consistency.specs.Frame.{Elsewhere, CallKeeps, TableKeeps, Frame}
-use Rattle.consistency.proofs.Effects.{stored-either}
+use Rattle.engine.specs.Frame.{Elsewhere, CallKeeps, TableKeeps, Frame}
+use Rattle.table.proofs.Stores.{stored-either}
 
 -- A CALL
 
