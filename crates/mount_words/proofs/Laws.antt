@@ -30,7 +30,7 @@ use Rattle.types.proofs.Volumes.{BoundedVolume}
 use Rattle.wire.specs.Le.{le, little}
 use Rattle.wire.proofs.Laws.{length-little, little-le}
 use Rattle.answer_words.specs.Answers.{written}
-use Rattle.mount_words.specs.Words.{mountLength, volumeWords, heldIn, heldWords, outstandingWords, stateAt, outstandingAt, mountWords, word, short, isFlag, isPolicy, isCommand, goodVolume, goodState, possible, shortOf, flagFrom, volumeFrom, heldFrom, outstandingFrom, mountFrom, withOutstanding, withState}
+use Rattle.mount_words.specs.Words.{mountLength, volumeWords, heldIn, heldWords, outstandingWords, stateAt, outstandingAt, mountWords, word, short, isFlag, isPolicy, isCommand, goodVolume, goodState, possible, shortOf, flagFrom, volumeFrom, heldFrom, outstandingFrom, mountFrom, withOutstanding, withState, Holds}
 
 -- CODES, back from their words, and within their codes
 
@@ -111,10 +111,6 @@ heldBack h =
 outstanding-back : (o : Outstanding) → heldIn o .number < 2 ^ 32 → cond (isBusy o) (Busy (heldBack (heldIn o))) Idle ≡ o
 outstanding-back Idle small = refl
 outstanding-back (Busy h) small = simp (kind-back (h .kind), mod-eq-of-lt small, command-back (h .command .kind))
-
--- the words hold a mount value
-abbrev pub Holds : List ℕ → Mount → Type 0
-Holds w m = (possible w ≡ true) × (mountFrom w ≡ m)
 
 -- words in front of which a mount value was put are possible
 pub possible-back : (m : Mount) (rest : List ℕ) → Valued m → possible (mountWords m ++ rest) ≡ true
@@ -378,15 +374,3 @@ unfolding withState possible mountFrom
 state-stays w h =
     let flag : isFlag (word w 9) ≡ true = search (and-left, and-right) depth 9 in
     rw (flag-there (word w 9) flag, set-getD w 9 0) (outstanding-stays w (possible-stands w h))
-
--- the words of a mount value, just as they are put for it, become those of another that fixes the same
-pub state-put : (m m′ : Mount) (rest : List ℕ) → m′ .volume ≡ m .volume → withState (mountWords m ++ rest) m′ ≡ mountWords m′ ++ rest
-unfolding withState mountWords
-state-put m m′ rest e = rw e (by (m .volume) (m .outstanding) (m′ .outstanding))
-  where
-    by : (v : Volume) (o o′ : Outstanding)
-        → withOutstanding (volumeWords v ++ (flagCode (m′ .readonly) ∷ outstandingWords o) ++ rest) o′ ≡ volumeWords v ++ (flagCode (m′ .readonly) ∷ outstandingWords o′) ++ rest
-    by v Idle Idle = refl
-    by v Idle (Busy h) = refl
-    by v (Busy h) Idle = refl
-    by v (Busy h) (Busy h′) = refl

@@ -1,7 +1,8 @@
 -- A mount value in the words that a caller keeps: where each field stands, which words hold a mount value, and which one.
 use Prim.Native.Nat.{ℕ, _%_, _^_}
 use mathlib.Core.List.{List, [], _∷_, _++_}
-use mathlib.Core.Bool.{Bool, cond, not, _&&_, _||_}
+use mathlib.Core.Bool.{Bool, true, cond, not, _&&_, _||_}
+use mathlib.Core.Path.{_≡_}
 use lib.ListN.{length, getD, set}
 use lib.Seq.{sets}
 use lib.Dec.{leb, ltb, eqb}
@@ -133,3 +134,7 @@ withOutstanding w o = cond (isBusy o || flagFrom (word w outstandingAt)) (sets w
 -- fixes the same, and `state-stays` that the state which they hold changes no word
 unfoldable pub withState : List ℕ → Mount → List ℕ
 withState w m = withOutstanding (set w stateAt (flagCode (m .readonly))) (m .outstanding)
+
+-- the words hold this mount value
+abbrev pub Holds : List ℕ → Mount → Type 0
+Holds w m = (possible w ≡ true) × (mountFrom w ≡ m)
