@@ -97,6 +97,14 @@ module _ (block : ℕ) (k : FileKind) (r : Row) (o l : ℕ) where
       let (e2, g2) = not-done g1 in
       record { checked = write-checked e1; some = e2; command = issued g2 }
 
+  -- and the other way round
+  pub write-issues : (c : Command) → WriteIssued block k r o l c → writeRow block k r o l ≡ Issue c
+  unfolding writeRow writeChecks
+  write-issues c w =
+      let p : writeChecks block k r o l ≡ Passed =
+      check-passes _ (w .checked .writable) (check-passes _ (le-ltb (r .capacity) (o + l) (w .checked .fits)) (check-passes _ (w .checked .placed) refl)) in
+      rw (after-passes p) (goes-on (w .some) (ap Issue (w .command)))
+
 -- A TRUNCATION
 
 pub record TruncateIssued (k : FileKind) (r : Row) (target : ℕ) (c : Command) : Type 0 where

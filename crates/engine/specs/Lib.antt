@@ -1,3 +1,4 @@
+pub mod Append
 pub mod Engine
 pub mod Facts
 pub mod Frame

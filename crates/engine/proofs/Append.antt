@@ -1,0 +1,93 @@
+-- A permitted append is issued as its one command, and no other write to a sequential file is.
+-- Assumes nothing.
+use Prim.Native.Nat.{ℕ, _+_, _%_, _≤_, _<_}
+use native.Mathlib.Omega.{arith}
+use mathlib.Core.Bool.{Bool, true, false, not, _&&_, _||_}
+use mathlib.Core.Path.{_≡_, refl, sym, ap, _∙_}
+use lib.Dec.{eqb}
+use borrow.Author.Tests.{eqb-true, eqb-false, eq-eqb, ne-eqb, not-false}
+use Rattle.types.specs.declared.Row.{Row}
+use Rattle.types.specs.declared.Call.{Call}
+use Rattle.types.specs.declared.Command.{Command}
+use Rattle.types.specs.declared.FileKind.the-variants.{Sequential}
+use Rattle.types.specs.declared.Access.{Access}
+use Rattle.types.specs.declared.Access.the-variants as access
+use Rattle.types.specs.declared.Answer.{Answer}
+use Rattle.types.specs.declared.Answer.the-variants.{Refused, Done, Issue}
+use Rattle.types.specs.Blocks.{onBlock}
+use Rattle.types.proofs.Tests.{both, and-left, and-right, or-left, or-right}
+use Rattle.checks.proofs.Laws.{reached-sound}
+use Rattle.decision.specs.Decision.{unwritable, misplaced, writeRow, dispatched}
+use Rattle.decision.proofs.Laws.{write-issued, write-issues, dispatch-passed, dispatch-passes}
+use Rattle.calls.specs.Calls.{answered, settled, effectBy}
+use Rattle.calls.proofs.Laws.{call-passed, call-passes}
+use Rattle.engine.specs.Engine.{State}
+use Rattle.engine.specs.Facts.{stepOf}
+use Rattle.engine.specs.Append.{Permitted, appendCommand, write, commanded, AppendCommanded, OnlyAppends}
+use Rattle.engine.proofs.Laws.{call-steps}
+
+-- A WRITE, by what its row answers
+write-steps : (s : State) (n o l : ℕ) → write s n o l ≡ stepOf (settled (s .mount) Sequential n (answered (s .mount) (s .cnv) (s .seq) Sequential n (Call.Write o l)) .outcome) (s .cnv) (s .seq)
+unfolding effectBy
+write-steps s n o l = call-steps (s .mount) (s .cnv) (s .seq) 1 n (Call.Write o l)
+
+written-access : (a : Access) → unwritable a ≡ false → a ≡ access.Write
+written-access access.Nothing e = cc
+written-access access.Read e = cc
+written-access access.Write e = refl
+
+module _ (s : State) (n : ℕ) (r : Row) (o l : ℕ) where
+  append-placed : Permitted s n r o l → misplaced Sequential (s .mount .volume .block) (r .size) o l ≡ false
+  append-placed p =
+      simp (
+        eq-eqb (o % s .mount .volume .block) 0 (ap (λ (x : ℕ). x % s .mount .volume .block) (p .appends) ∙ reached-sound (s .mount .volume) (s .cnv) (s .seq) Sequential n r (p .reached) .blocks),
+        eq-eqb (l % s .mount .volume .block) 0 (p .whole),
+        eq-eqb o (r .size) (p .appends),
+      )
+
+  append-answer : Permitted s n r o l → answered (s .mount) (s .cnv) (s .seq) Sequential n (Call.Write o l) ≡ Issue (appendCommand r o l)
+  append-answer p =
+      call-passes (s .mount) (s .cnv) (s .seq) Sequential n (Call.Write o l) r (record { reached = p .reached; idle = p .idle })
+      ∙ dispatch-passes (s .mount .readonly) (s .mount .volume .block) Sequential r (Call.Write o l) (rw (p .writable))
+      ∙ write-issues (s .mount .volume .block) Sequential r o l (appendCommand r o l)
+      (record { checked = record { writable = rw (p .access); fits = p .fits; placed = append-placed p }; some = ne-eqb l 0 (λ e. omega (arith, p .some)); command = refl })
+
+pub append-commanded : AppendCommanded
+unfolding AppendCommanded
+append-commanded s n r o l p = write-steps s n o l ∙ rw (append-answer s n r o l p) refl
+
+-- THE OTHER WAY ROUND
+settled-issue : (s : State) (n : ℕ) (a : Answer) (c : Command) → settled (s .mount) Sequential n a .outcome .answer ≡ Issue c → a ≡ Issue c
+settled-issue s n (Refused x) c e = e
+settled-issue s n (Done x) c e = e
+settled-issue s n (Issue x) c e = e
+
+pub only-appends : OnlyAppends
+unfolding OnlyAppends
+only-appends s n o l c e =
+    let block = s .mount .volume .block in
+    let a = settled-issue s n _ c (sym (ap (λ (t : _). t .reply) (write-steps s n o l)) ∙ e) in
+    let (r, (w, g)) = call-passed (s .mount) (s .cnv) (s .seq) Sequential n (Call.Write o l) c a in
+    let (ro, d) = dispatch-passed (s .mount .readonly) block Sequential r (Call.Write o l) c g in
+    let i = write-issued block Sequential r o l c d in
+    let placed : not (onBlock block o && onBlock block l) || not (eqb o (r .size)) ≡ false = i .checked .placed in
+    let aligned : onBlock block o && onBlock block l ≡ true = not-false _ (or-left _ _ placed) in (
+      r,
+      (
+        record {
+          reached = w .reached;
+          idle = w .idle;
+          writable = by (s .mount .readonly) ro;
+          access = written-access (r .access) (i .checked .writable);
+          fits = i .checked .fits;
+          appends = eqb-true o (r .size) (not-false _ (or-right (not (onBlock block o && onBlock block l)) _ placed));
+          whole = eqb-true (l % block) 0 (and-right (onBlock block o) _ aligned);
+          some = omega (arith, eqb-false l 0 (i .some));
+        },
+        i .command,
+      ),
+    )
+  where
+    by : (t : Bool) → t && true ≡ false → t ≡ false
+    by true e = e
+    by false e = refl
