@@ -1,3 +1,4 @@
 pub mod Filling
+pub mod Leaves
 pub mod Mounted
 pub mod Tables
