@@ -1,9 +1,9 @@
--- What a step is, from the effect that its call or completion has; and that no call stores a row.
+-- What a step is, from the effect that its call or completion has; that no call stores a row; and that what the mount fixes stays.
 -- Assumes nothing.
 use Prim.Native.Nat.{ℕ}
 use mathlib.Core.Path.{_≡_, refl, ap, _∙_, sym}
 use mathlib.Core.Bool.{Bool, true, false, cond}
-use mathlib.Core.List.{List}
+use mathlib.Core.List.{List, [], _∷_}
 use lib.ListN.{length}
 use Rattle.types.specs.declared.Mount.{Mount}
 use Rattle.types.specs.declared.FileKind.{FileKind}
@@ -17,9 +17,11 @@ use Rattle.types.specs.Codes.{isKind, kindFrom}
 use Rattle.types.specs.Effects.{refusing}
 use Rattle.checks.specs.Checks.{noKind}
 use Rattle.calls.specs.Calls as calls
+use Rattle.calls.proofs.Laws as called
 use Rattle.completion.specs.Completions.{Completion}
 use Rattle.completion.specs.Completions as completions
-use Rattle.engine.specs.Engine.{call, completion, stepBy, step}
+use Rattle.completion.proofs.Laws as completed
+use Rattle.engine.specs.Engine.{State, Input, call, completion, stepBy, step, run}
 use Rattle.engine.specs.Facts.{stateOf, stepOf}
 
 -- NO CALL STORES A ROW, whatever it answers.
@@ -47,3 +49,18 @@ pub completion-steps : {cnv′ seq′ : List ℕ} {e : Effect} {r : Outcome} (m 
     → ((w : Mount) → stepBy (stateOf w cnv seq) e ≡ stepOf r cnv′ seq′) → step (stateOf m cnv seq) (completion x) ≡ stepOf r cnv′ seq′
 unfolding step
 completion-steps m cnv seq x found applied = ap (stepBy (stateOf m cnv seq)) (sym found) ∙ applied m
+
+-- WHAT THE MOUNT FIXES stays, over a step and over a run.
+pub step-fixes : (s : State) (x : Input) → step s x .state .mount .volume ≡ s .mount .volume
+unfolding step calls.effectBy
+step-fixes s (call kind n x) = by (isKind kind)
+  where
+    by : (t : Bool) → cond t (calls.effectOf (s .mount) (s .cnv) (s .seq) (kindFrom kind) n x) (refusing (s .mount) (noKind (s .mount .volume) (length (s .cnv)) (length (s .seq)))) .outcome .mount .volume ≡ s .mount .volume
+    by true = called.effect-fixes (s .mount) (s .cnv) (s .seq) (kindFrom kind) n x
+    by false = refl
+step-fixes s (completion x) = completed.effect-fixes (s .mount) (s .cnv) (s .seq) x
+
+pub run-fixes : (s : State) (xs : List Input) → run s xs .state .mount .volume ≡ s .mount .volume
+unfolding run
+run-fixes s [] = refl
+run-fixes s (x ∷ xs) = run-fixes (step s x .state) xs ∙ step-fixes s x
