@@ -7,7 +7,7 @@ use mathlib.Core.Bool.{Bool, true, false, not, _&&_, _||_, cond, false≢true}
 use mathlib.Core.List.{List}
 use lib.ListN.{length}
 use lib.Dec.{leb, ltb, eqb}
-use borrow.Author.Tests.{leb-true, ltb-true, ltb-false, eqb-true, lt-ltb}
+use borrow.Author.Tests.{leb-true, ltb-true, ltb-false, eqb-true, le-leb, lt-ltb, eq-eqb}
 use Rattle.types.specs.declared.Volume.{Volume}
 use Rattle.types.specs.declared.Row.{Row}
 use Rattle.types.specs.declared.FileKind.{FileKind}
@@ -20,8 +20,8 @@ use Rattle.types.specs.declared.Refusal.the-variants as refusal
 use Rattle.types.specs.Blocks.{sectorBytes, blockSectors, goodBlock, onBlock, mostFiles}
 use Rattle.types.specs.Kinds.{ofKind, filesOf}
 use Rattle.types.specs.Predicates.{means, isConventional, isReadOnly, isOffline, isNone, isWrite}
-use Rattle.types.proofs.Tests.{both, and-left, and-right, means-out}
-use Rattle.types.proofs.PredicateLaws.{none-is, some-is}
+use Rattle.types.proofs.Tests.{both, and-left, and-right, means-in, means-out}
+use Rattle.types.proofs.PredicateLaws.{none-is, some-is, conventional-is}
 use Rattle.table.specs.declared.Slot.{Slot}
 use Rattle.table.specs.declared.Slot.the-variants as slot
 use Rattle.table.specs.Rows.{rowsLent, rowAt}
@@ -49,10 +49,36 @@ module _ (v : Volume) (c s : ℕ) (h : countsFit v c s ≡ true) where
   pub counts-most : (k : FileKind) → filesOf k v ≤ mostFiles
   counts-most k = leb-true (filesOf k v) mostFiles (and-right (leb (filesOf k v) (rowsLent (ofKind k c s))) _ (counts-files k))
 
+-- and the other way round
+pub counts-in : (v : Volume) (c s : ℕ) → ((k : FileKind) → filesOf k v ≤ rowsLent (ofKind k c s)) → ((k : FileKind) → filesOf k v ≤ mostFiles)
+    → goodBlock (v .block) ≡ true → countsFit v c s ≡ true
+unfolding countsFit
+counts-in v c s lent most good =
+    both (both (both (le-leb _ (rowsLent c) (lent Conventional)) (le-leb _ mostFiles (most Conventional)))
+    (both (le-leb _ (rowsLent s) (lent Sequential)) (le-leb _ mostFiles (most Sequential)))) good
+
 -- 10 (ROW)
 
 not-write : (a : Access) → not (isWrite a) ≡ true → a ≡ access.Write → ⊥
 not-write a h e = false≢true (rw e at h)
+
+unwritten : (a : Access) → (a ≡ access.Write → ⊥) → not (isWrite a) ≡ true
+unwritten access.Nothing h = refl
+unwritten access.Read h = refl
+unwritten access.Write h = absurd (h refl)
+
+not-none : (a : Access) → not (isNone a) ≡ true → a ≡ access.Nothing → ⊥
+not-none a h e = false≢true (rw e at h)
+
+offline-is : (c : Condition) → isOffline c ≡ true → c ≡ condition.Offline
+offline-is condition.Healthy h = absurd (false≢true h)
+offline-is condition.ReadOnly h = absurd (false≢true h)
+offline-is condition.Offline h = refl
+
+readonly-is : (c : Condition) → isReadOnly c ≡ true → c ≡ condition.ReadOnly
+readonly-is condition.Healthy h = absurd (false≢true h)
+readonly-is condition.ReadOnly h = refl
+readonly-is condition.Offline h = absurd (false≢true h)
 
 -- what each access allows
 and-true : (b : Bool) → b ≡ b && true
@@ -108,6 +134,21 @@ module _ (block : ℕ) (k : FileKind) (r : Row) where
         readonly = λ e. not-write (r .access) (means-out (isReadOnly (r .condition)) _ b3 (rw e));
         full = λ e n. eqb-true (r .size) (r .capacity) (means-out (isConventional k && not (isNone (r .access))) _ b4 (both (ap isConventional e) (some-is (r .access) n)));
       }
+
+  -- and the other way round
+  pub row-sound : SoundRow block k r → soundRow block k r ≡ true
+  unfolding soundRow
+  row-sound w =
+      let starts = both (lt-ltb 0 (r .start) (w .started)) (eq-eqb _ 0 (w .aligned)) in
+      let holds = both (lt-ltb 0 (r .capacity) (w .roomy)) (eq-eqb _ 0 (w .whole)) in
+      let ends = le-leb (r .start + r .capacity / sectorBytes) (2 ^ 40) (w .ends) in
+      let sized = both (eq-eqb _ 0 (w .blocks)) (le-leb (r .size) (r .capacity) (w .within)) in
+      let offline = means-in (isOffline (r .condition)) _ (λ e. ap isNone (w .offline (offline-is (r .condition) e))) in
+      let none = means-in (isNone (r .access)) _ (λ e. eq-eqb (r .size) 0 (w .none (none-is (r .access) e))) in
+      let readonly = means-in (isReadOnly (r .condition)) _ (λ e. unwritten (r .access) (w .readonly (readonly-is (r .condition) e))) in
+      let full = means-in (isConventional k && not (isNone (r .access))) _ (λ e.
+      eq-eqb (r .size) (r .capacity) (w .full (conventional-is k (and-left _ _ e)) (not-none (r .access) (and-right (isConventional k) _ e)))) in
+      both (both (both (both (both starts holds) ends) sized) (both (both offline none) readonly)) full
 
 -- 10 (COUNTS), 1, 10 (ROW)
 

@@ -41,7 +41,7 @@ use Rattle.consistency.proofs.Bridge.{noRow, fill-listed}
 use Rattle.consistency.proofs.Files.{files-sound, kinds}
 use Rattle.consistency.proofs.Effects.{holdOf}
 use Rattle.consistency.proofs.Steps.{Invariant, invariant-run, new, Told, truthful-told, performed-sound, seq-completed, cnv-completed, replied}
-use Rattle.consistency.proofs.Mounts.{cnvs, seqs, Accepts, accepts, leaves, mount-leaves}
+use Rattle.mount.proofs.Leaves.{cnvs, seqs, Accepts, accepts, leaves, mount-leaves}
 use Rattle.consistency.proofs.Start.{files-start, covers-start, covers-nth}
 use Rattle.consistency.proofs.Fresh.{all-good, seq-count, file-shown, cnv-count}
 

@@ -24,7 +24,7 @@ use Rattle.disk.proofs.Whole.{At, at-write, whole-min}
 use Rattle.disk.proofs.Conditions.{not-better}
 use Rattle.disk.proofs.SoundZone.{SoundZone, sound-struck}
 use Rattle.consistency.proofs.Agrees.{Agrees, Live, RowState, live, dead}
-use Rattle.consistency.proofs.Issued.{Issued, Placed}
+use Rattle.held.proofs.Issued.{Issued, Placed}
 use Rattle.consistency.proofs.Successes.{advanced-seq, at-place, keeps-success}
 use Rattle.consistency.proofs.Failures.{failedRow, keeps-failed}
 

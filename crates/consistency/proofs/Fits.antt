@@ -19,7 +19,7 @@ use Rattle.consistency.specs.FileHistory.{FileHistory}
 use Rattle.disk.proofs.Conditions.{notBetter, not-better}
 use Rattle.disk.proofs.SoundZone.{SoundZone, says-conventional, says-sequential, says-condition, record-good}
 use Rattle.consistency.proofs.Agrees.{Agrees}
-use Rattle.consistency.proofs.Issued.{Issued}
+use Rattle.held.proofs.Issued.{Issued}
 use Rattle.consistency.proofs.Doings.{live-of, failedZone, failed-sound}
 use Rattle.consistency.proofs.Files.{Inside}
 

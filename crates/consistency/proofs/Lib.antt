@@ -1,7 +1,6 @@
 pub mod Shown
 pub mod Agrees
 pub mod Mishaps
-pub mod Issued
 pub mod Exactly
 pub mod Moves
 pub mod Successes
@@ -13,7 +12,6 @@ pub mod Files
 pub mod Fits
 pub mod Effects
 pub mod Steps
-pub mod Mounts
 pub mod Start
 pub mod Fresh
 pub mod Demand

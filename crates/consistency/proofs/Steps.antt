@@ -54,7 +54,7 @@ use Rattle.disk.proofs.Shows.{Recorded, record-told}
 use Rattle.consistency.specs.System.{System, holdsSeqFile, Event, call, mishap, doing, stray, placeOf, performIn, settledIn, doneBy, strayBy, step, run, truthfulBy, truthful, allTruthful}
 use Rattle.disk.proofs.SoundZone.{SoundZone, sound-struck, reported-shows}
 use Rattle.consistency.proofs.Mishaps.{keeps-mishap}
-use Rattle.consistency.proofs.Issued.{Within, Issued, issuable-tells}
+use Rattle.held.proofs.Issued.{Within, Issued, issuable-tells}
 use Rattle.consistency.proofs.Doings.{completedRow, keeps-command}
 use Rattle.consistency.proofs.Bridge.{noRow, Listed, listed-became}
 use Rattle.consistency.proofs.Files.{Files, Own, own, alter, Inside, inside-moved, Covers, covers-set, covers-same, set-keeps, kinds-differ, kinds, kinds-set}

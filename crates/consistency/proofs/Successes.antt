@@ -28,7 +28,7 @@ use Rattle.disk.proofs.Conditions.{healthy-is, healthy-known}
 use Rattle.disk.proofs.SoundZone.{sound-moved}
 use Rattle.consistency.proofs.Shown.{writtenTo, fresh-size}
 use Rattle.consistency.proofs.Agrees.{Agrees, Live, live, size-last, row-last}
-use Rattle.consistency.proofs.Issued.{Issued, Placed}
+use Rattle.held.proofs.Issued.{Issued, Placed}
 use Rattle.consistency.proofs.Moves.{read-stays}
 
 -- the last size at a point: v, which a fresh mount gives where the file is quiet and its zone healthy, and which it was before elsewhere

@@ -15,15 +15,13 @@ use Rattle.types.specs.declared.Answer.{Answer}
 use Rattle.types.specs.declared.Answer.the-variants.{Refused, Done, Issue}
 use Rattle.types.specs.declared.Outstanding.{Outstanding}
 use Rattle.types.specs.declared.Outstanding.the-variants.{Busy}
-use Rattle.types.specs.declared.FileKind.the-variants.{Conventional, Sequential}
-use Rattle.types.specs.declared.Store.{Store}
 use Rattle.types.specs.declared.Call.{Call}
 use Rattle.types.specs.Codes.{isKind, kindFrom}
 use Rattle.types.specs.Kinds.{ofKind}
 use Rattle.types.specs.Mounts.{cleared}
 use Rattle.types.specs.Numbers.{answerNumber}
 use Rattle.table.specs.Rows.{rowWidth, stored}
-use Rattle.table.proofs.Laws.{setRow-length, word-outside}
+use Rattle.table.proofs.Laws.{word-outside}
 use Rattle.checks.specs.Checks.{noKind}
 use Rattle.calls.specs.Calls.{settled, answered, effectBy}
 use Rattle.calls.specs.Calls as calls
@@ -44,7 +42,7 @@ use Rattle.engine.specs.Engine.{State, Step, applied, stepBy, step}
 use Rattle.engine.specs.Facts.{stepOf}
 use Rattle.engine.proofs.Laws.{call-steps}
 use Rattle.engine.specs.Frame.{Elsewhere, CallKeeps, TableKeeps, Frame}
-use Rattle.table.proofs.Stores.{stored-either}
+use Rattle.table.proofs.Stores.{stored-either, stored-length, of-stored}
 
 -- A CALL
 
@@ -64,14 +62,6 @@ module _ (s : State) where
       by false = record { volume = refl; readonly = refl; cnv = refl; seq = refl; refused = λ e. refl }
 
 -- A COMPLETION
-
--- the table of a kind, once something is stored
-stored-kind : (k : FileKind) (x : Store) (cnv seq : List ℕ) → ofKind k (stored Conventional x cnv) (stored Sequential x seq) ≡ stored k x (ofKind k cnv seq)
-stored-kind Conventional x cnv seq = refl
-stored-kind Sequential x cnv seq = refl
-
-stored-length : (f : FileKind) (n : ℕ) (r : Row) (k : FileKind) (t : List ℕ) → length (stored k (store.Put f n r) t) ≡ length t
-stored-length f n r k t = stored-either (λ u. length u ≡ length t) f n r k t (λ e. setRow-length t n r) refl
 
 stored-words : (f : FileKind) (n : ℕ) (r : Row) (k : FileKind) (t : List ℕ) (j : ℕ) → (f ≡ k → j / rowWidth ≡ n → ⊥) → getD (stored k (store.Put f n r) t) j 0 ≡ getD t j 0
 stored-words f n r k t j h = stored-either (λ u. getD u j 0 ≡ getD t j 0) f n r k t (λ e. word-outside t n j r (h e)) refl
@@ -96,8 +86,8 @@ module _ (s : State) where
     put-keeps d r put never = record {
       refused = λ e f. absurd (never e f);
       tables = λ k. record {
-        length = rw (put, stored-kind k (store.Put (h .kind) (h .number) r) (s .cnv) (s .seq)) (stored-length (h .kind) (h .number) r k (ofKind k (s .cnv) (s .seq)));
-        words = λ j e. rw (put, stored-kind k (store.Put (h .kind) (h .number) r) (s .cnv) (s .seq)) (stored-words (h .kind) (h .number) r k (ofKind k (s .cnv) (s .seq)) j (subst (λ (o : Outstanding). Elsewhere o k j) held e));
+        length = rw (put, of-stored k (store.Put (h .kind) (h .number) r) (s .cnv) (s .seq)) (stored-length k (store.Put (h .kind) (h .number) r) (ofKind k (s .cnv) (s .seq)));
+        words = λ j e. rw (put, of-stored k (store.Put (h .kind) (h .number) r) (s .cnv) (s .seq)) (stored-words (h .kind) (h .number) r k (ofKind k (s .cnv) (s .seq)) j (subst (λ (o : Outstanding). Elsewhere o k j) held e));
       };
     }
 

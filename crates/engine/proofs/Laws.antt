@@ -3,7 +3,7 @@
 use Prim.Native.Nat.{ℕ, _<_}
 use mathlib.Core.Path.{_≡_, refl, ap, _∙_, sym}
 use mathlib.Core.Bool.{Bool, true, false, cond}
-use mathlib.Core.List.{List}
+use mathlib.Core.List.{List, [], _∷_}
 use lib.ListN.{length}
 use Rattle.types.specs.declared.Mount.{Mount}
 use Rattle.types.specs.declared.FileKind.{FileKind}
@@ -21,13 +21,13 @@ use Rattle.types.specs.Kinds.{filesOf}
 use Rattle.types.specs.Effects.{refusing}
 use Rattle.checks.specs.Checks.{noKind}
 use Rattle.calls.specs.Calls as calls
+use Rattle.calls.proofs.Laws as called
 use Rattle.completion.specs.Completions.{Completion}
 use Rattle.completion.specs.Completions as completions
 use Rattle.calls.proofs.Laws.{call-passed}
-use Rattle.calls.proofs.Laws as callLaws
 use Rattle.completion.proofs.Laws.{effect-holds}
-use Rattle.completion.proofs.Laws as completionLaws
-use Rattle.engine.specs.Engine.{State, Input, call, completion, stepBy, step}
+use Rattle.completion.proofs.Laws as completed
+use Rattle.engine.specs.Engine.{State, Input, call, completion, stepBy, step, run}
 use Rattle.engine.specs.Facts.{stateOf, stepOf}
 
 -- NO CALL STORES A ROW, whatever it answers.
@@ -56,16 +56,20 @@ pub completion-steps : {cnv′ seq′ : List ℕ} {e : Effect} {r : Outcome} (m 
 unfolding step
 completion-steps m cnv seq x found applied = ap (stepBy (stateOf m cnv seq)) (sym found) ∙ applied m
 
--- A STEP KEEPS WHAT THE MOUNT FIXES
+-- WHAT THE MOUNT FIXES stays, over a step and over a run.
 pub step-fixes : (s : State) (x : Input) → step s x .state .mount .volume ≡ s .mount .volume
 unfolding step calls.effectBy
 step-fixes s (call kind n x) = by (isKind kind)
   where
-    by : (t : Bool)
-        → cond t (calls.effectOf (s .mount) (s .cnv) (s .seq) (kindFrom kind) n x) (refusing (s .mount) (noKind (s .mount .volume) (length (s .cnv)) (length (s .seq)))) .outcome .mount .volume ≡ s .mount .volume
-    by true = callLaws.effect-fixes (s .mount) (s .cnv) (s .seq) (kindFrom kind) n x
+    by : (t : Bool) → cond t (calls.effectOf (s .mount) (s .cnv) (s .seq) (kindFrom kind) n x) (refusing (s .mount) (noKind (s .mount .volume) (length (s .cnv)) (length (s .seq)))) .outcome .mount .volume ≡ s .mount .volume
+    by true = called.effect-fixes (s .mount) (s .cnv) (s .seq) (kindFrom kind) n x
     by false = refl
-step-fixes s (completion x) = completionLaws.effect-fixes (s .mount) (s .cnv) (s .seq) x
+step-fixes s (completion x) = completed.effect-fixes (s .mount) (s .cnv) (s .seq) x
+
+pub run-fixes : (s : State) (xs : List Input) → run s xs .state .mount .volume ≡ s .mount .volume
+unfolding run
+run-fixes s [] = refl
+run-fixes s (x ∷ xs) = run-fixes (step s x .state) xs ∙ step-fixes s x
 
 -- WHAT IS OUTSTANDING after a step was so before, or is nothing, or is a command that a call issued on a file that there is.
 pub step-holds : (P : Outstanding → Type 0) (s : State) (x : Input) → P (s .mount .outstanding) → P Idle

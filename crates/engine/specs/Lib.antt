@@ -2,3 +2,4 @@ pub mod Append
 pub mod Engine
 pub mod Facts
 pub mod Frame
+pub mod Possible

@@ -1,3 +1,4 @@
 pub mod Commands
 pub mod Issuable
+pub mod Issued
 pub mod Laws

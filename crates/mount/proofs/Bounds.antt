@@ -1,11 +1,10 @@
 -- A mount value is within its types: its numbers of files by the report's header, and what the super block gives by its bytes.
 -- Assumes nothing.
 use mathlib.Core.Path.{_≡_, refl}
-use mathlib.Core.List.{List, [], _∷_}
-use mathlib.Core.Bool.{Bool, true, false, _&&_}
-use Prim.Native.Nat.{ℕ, suc, _≤_, _<_}
+use mathlib.Core.List.{List}
+use Prim.Native.Nat.{ℕ, _≤_, _<_}
 use native.Mathlib.Omega.{arith}
-use lib.ListN.{length, getD, drop, length-drop, length-map}
+use lib.ListN.{length, getD, drop, length-drop}
 use Rattle.types.specs.Blocks.{mostFiles}
 use Rattle.types.specs.declared.MountAnswer.{MountAnswer}
 use Rattle.types.specs.declared.MountAnswer.the-variants.{Refused, Mounted}
@@ -14,37 +13,11 @@ use Rattle.types.specs.declared.ErrorPolicy.{ErrorPolicy}
 use Rattle.types.proofs.Volumes.{BoundedVolume}
 use Rattle.superblock.specs.declared.SuperBlock.{SuperBlock}
 use Rattle.superblock.proofs.Bounds.{zero-bytes, BoundedFields, fields-bounded}
-use Rattle.zones.specs.declared.Zone.{Zone}
-use Rattle.zones.specs.Zone.{conventional, sequential}
-use Rattle.files.specs.Files.{seqRow, seqRows, startsConventional, runsWith, runRow, runs, cnvRows}
-use Rattle.files.proofs.Walks.{if-count, flag-small}
+use Rattle.files.proofs.Few.{seqs-few, cnvs-few}
 use Rattle.report.specs.Report.{zonesOf}
 use Rattle.report.proofs.Laws.{report-told, framed, zones-length}
 use Rattle.mount.specs.Mount.{fileZones, mountOf, aggregated, mountAnswer, mountOutcome}
 use Rattle.mount.proofs.Mounted.{mounted-told}
-
--- THE FILES
-
--- no more than zones
-seqs-few : (zs : List Zone) → length (seqRows zs) ≤ length zs
-unfolding seqRows
-seqs-few [] = omega arith
-seqs-few (z ∷ zs) = omega (arith, seqs-few zs, if-count (sequential z) (seqRow z) (seqRows zs), flag-small (sequential z))
-
-with-few : (plain joins : Bool) (z : Zone) (rs : List (List Zone)) → length (runsWith plain joins z rs) ≤ suc (length rs)
-with-few false joins z rs = omega arith
-with-few true false z rs = omega arith
-with-few true true z [] = omega arith
-with-few true true z (r ∷ rs) = omega arith
-
-runs-few : (aggregate : Bool) (zs : List Zone) → length (runs aggregate zs) ≤ length zs
-unfolding runs
-runs-few aggregate [] = omega arith
-runs-few aggregate (z ∷ zs) = omega (arith, runs-few aggregate zs, with-few (conventional z) (aggregate && startsConventional zs) z (runs aggregate zs))
-
-cnvs-few : (aggregate : Bool) (zs : List Zone) → length (cnvRows aggregate zs) ≤ length zs
-unfolding cnvRows
-cnvs-few aggregate zs = omega (arith, length-map (runs aggregate zs) runRow, runs-few aggregate zs)
 
 -- THE MOUNT VALUE
 

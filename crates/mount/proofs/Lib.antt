@@ -1,4 +1,5 @@
 pub mod Bounds
 pub mod Filling
+pub mod Leaves
 pub mod Mounted
 pub mod Tables

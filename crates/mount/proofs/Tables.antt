@@ -42,6 +42,15 @@ fill-from t rows h =
     ∙ sets-eq (rowsWords rows) t 0 (omega (arith, words-length rows))
     ∙ ap (λ (n : ℕ). rowsWords rows ++ drop n t) (zero-add (length (rowsWords rows)) ∙ words-length rows)
 
+-- as long as it was
+from-length : (t : List ℕ) (i : ℕ) (rows : List Row) → length (fillFrom t i rows) ≡ length t
+unfolding fillFrom
+from-length t i [] = refl
+from-length t i (r ∷ rs) = from-length (setRow t i r) (i + 1) rs ∙ setRow-length t i r
+
+pub fill-length : (t : List ℕ) (rows : List Row) → length rows ≤ rowsLent (length t) → length (fill t rows) ≡ length t
+fill-length t rows h = ap length (sym (fill-from t rows h)) ∙ from-length t 0 rows
+
 -- ITS ROWS
 
 from-below : (t : List ℕ) (i : ℕ) (rows : List Row) (j : ℕ) → j < i → rowAt (fillFrom t i rows) j ≡ rowAt t j

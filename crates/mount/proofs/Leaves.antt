@@ -1,4 +1,4 @@
--- What a mount answered 0 tells, and what it leaves. The mount's definition is opened here and nowhere above.
+-- What a mount answered 0 tells, and what it leaves. Whoever uses these opens nothing of the mount's definition.
 -- Assumes nothing.
 use mathlib.Core.Bool.{false}
 use mathlib.Core.List.{List}

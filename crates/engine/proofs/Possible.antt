@@ -1,0 +1,77 @@
+-- What is possible stays possible: no step is answered 10, and no call on a file is answered 1. And so of every run, from a mount answered 0.
+-- Assumes nothing.
+use Prim.Native.Nat.{_<_}
+use native.Mathlib.Omega.{arith}
+use mathlib.Core.Path.{sym, subst}
+use mathlib.Core.Logic.{_≢_}
+use mathlib.Core.Bool.{Bool, true, false, cond}
+use mathlib.Core.List.{List, [], _∷_}
+use lib.ListN.{length}
+use Rattle.types.specs.declared.Volume.{Volume}
+use Rattle.types.specs.Codes.{isKind, kindFrom}
+use Rattle.types.specs.Effects.{refusing}
+use Rattle.types.specs.Kinds.{filesOf}
+use Rattle.types.specs.Numbers.{answerNumber}
+use Rattle.mount.specs.Mount.{Mounting, mountOutcome}
+use Rattle.mount.proofs.Leaves.{accepts, mount-leaves}
+use Rattle.checks.specs.Checks.{noKind}
+use Rattle.calls.specs.Calls as calls
+use Rattle.engine.specs.Engine.{State, mounted, Input, call, completion, step, run}
+use Rattle.engine.specs.Possible.{Possible, impossible, MountedPossible, StaysPossible, NeverImpossible, FilesAreFound, NoneIs, RunNeverImpossible, RunFindsFiles}
+use Rattle.engine.proofs.Laws.{run-fixes}
+use Rattle.engine.proofs.Mounted.{leaves-possible}
+use Rattle.engine.proofs.Kept.{call-possible, completion-possible}
+use Rattle.engine.proofs.Replies.{file-ordinary, call-answer, completion-answer, settled-answer}
+
+-- A MOUNT ANSWERED 0 leaves what is possible.
+pub mounted-possible : MountedPossible
+unfolding MountedPossible
+mounted-possible block superblock options report cnv seq zeroed =
+    let t = accepts block superblock options report cnv seq zeroed in
+    subst (λ (o : Mounting). Possible (mounted o)) (sym (mount-leaves block superblock options report cnv seq t))
+    (leaves-possible block superblock options report cnv seq t)
+
+-- WHAT IS POSSIBLE STAYS POSSIBLE.
+pub stays-possible : StaysPossible
+unfolding StaysPossible step
+stays-possible s (call kind n x) p = call-possible p kind n x
+stays-possible s (completion x) p = completion-possible p x
+
+-- NO STEP IS ANSWERED 10.
+pub never-impossible : NeverImpossible
+unfolding NeverImpossible step calls.effectBy
+never-impossible s (call kind n x) p = by (isKind kind)
+  where
+    by : (t : Bool) → answerNumber (cond t (calls.effectOf (s .mount) (s .cnv) (s .seq) (kindFrom kind) n x) (refusing (s .mount) (noKind (s .mount .volume) (length (s .cnv)) (length (s .seq)))) .outcome .answer) ≢ impossible
+    by true = rw (settled-answer (s .mount) (kindFrom kind) n (calls.answered (s .mount) (s .cnv) (s .seq) (kindFrom kind) n x)) (call-answer p (kindFrom kind) n x)
+    by false = rw (p .counts) (λ q. omega arith)
+never-impossible s (completion x) p = completion-answer p x
+
+-- NO CALL ON A FILE IS ANSWERED 1.
+pub files-are-found : FilesAreFound
+unfolding FilesAreFound step calls.effectBy
+files-are-found s kind n x p is h =
+    rw (is, settled-answer (s .mount) (kindFrom kind) n (calls.answered (s .mount) (s .cnv) (s .seq) (kindFrom kind) n x)) (file-ordinary p (kindFrom kind) n x h .found)
+
+-- A RUN, from a mount answered 0
+
+pub run-possible : (s : State) (xs : List Input) → Possible s → Possible (run s xs .state)
+unfolding run StaysPossible
+run-possible s [] p = p
+run-possible s (x ∷ xs) p = run-possible (step s x .state) xs (stays-possible s x p)
+
+run-answers : (s : State) (xs : List Input) → Possible s → NoneIs impossible (run s xs .replies)
+unfolding run NoneIs StaysPossible NeverImpossible
+run-answers s [] p = tt
+run-answers s (x ∷ xs) p = (never-impossible s x p, run-answers (step s x .state) xs (stays-possible s x p))
+
+pub run-never-impossible : RunNeverImpossible
+unfolding RunNeverImpossible MountedPossible
+run-never-impossible block superblock options report cnv seq zeroed inputs = run-answers _ inputs (mounted-possible block superblock options report cnv seq zeroed)
+
+pub run-finds-files : RunFindsFiles
+unfolding RunFindsFiles MountedPossible FilesAreFound
+run-finds-files block superblock options report cnv seq zeroed inputs kind n x is h =
+    let s = mounted (mountOutcome block superblock options report cnv seq) in
+    let p = run-possible s inputs (mounted-possible block superblock options report cnv seq zeroed) in
+    files-are-found (run s inputs .state) kind n x p is (subst (λ (v : Volume). n < filesOf (kindFrom kind) v) (sym (run-fixes s inputs)) h)
