@@ -22,9 +22,12 @@ use Rattle.zones.specs.declared.Zone.{Zone}
 use Rattle.report.specs.Report.{zoneCount, zonesOf}
 use Rattle.files.specs.Files.{cnvRows, seqRows}
 use Rattle.mount.specs.Fill.{fill}
-use Rattle.mount.specs.Mount.{fileZones, policyOf, aggregated, mountOutcome}
+use Rattle.mount.specs.Mount.{Mounting, fileZones, policyOf, aggregated, mountOutcome}
 use Rattle.report.proofs.Laws.{framed, zones-length, AllGood, report-told, report-good}
+use Rattle.engine.specs.Engine.{Input}
 use Rattle.engine.specs.Engine as engine
+use Rattle.engine.specs.Possible.{Possible, MountedPossible, NeverImpossible, FilesAreFound}
+use Rattle.engine.proofs.Possible.{mounted-possible, never-impossible, files-are-found}
 use Rattle.disk.specs.Disk.{DiskZone}
 use Rattle.disk.specs.Facts.{Shows, ShowsZones}
 use Rattle.disk.specs.Facts as shows
@@ -34,7 +37,7 @@ use Rattle.disk.proofs.Reported.{record-shown, record-small, sound-at, disk-sho
 use Rattle.disk.proofs.Found.{zoneFound, zones-found}
 use Rattle.consistency.specs.System.{System, Event, run, allTruthful, mounted, zoneOf, historyOf, performIn}
 use Rattle.consistency.specs.Claim.{AsPromised}
-use Rattle.consistency.specs.Demand.{Compares, Start, History, after, Fresh, freshMount, Consistent, Demand3, AlwaysStarted, AlwaysReported, Recorded, AlwaysRecorded, Digested, AlwaysDigested}
+use Rattle.consistency.specs.Demand.{Compares, Start, History, after, Fresh, freshMount, Consistent, Demand3, AlwaysStarted, AlwaysReported, Recorded, AlwaysRecorded, Digested, AlwaysDigested, AlwaysAnswered}
 use Rattle.consistency.proofs.Shown.{shownRow}
 use Rattle.consistency.proofs.Promised.{promised}
 use Rattle.consistency.proofs.Bridge.{noRow, fill-listed}
@@ -47,9 +50,9 @@ use Rattle.consistency.proofs.Fresh.{all-good, seq-count, file-shown, c
 
 module _ (block : ℕ) (superblock options report cnv seq : List ℕ) where
   -- the system that it leaves
-  invariant-mounted : Accepts block superblock options report cnv seq → (disk : List DiskZone) → ShowsZones (zonesOf report) disk → let new = leaves block superblock options report cnv seq in Invariant (new .mount .volume) (kinds disk) (mounted new disk)
+  invariant-mounted : Accepts block superblock options report cnv seq → (disk : List DiskZone) → ShowsZones (zonesOf report) disk → let new = leaves block superblock options report cnv seq in Possible (engine.mounted new) → Invariant (new .mount .volume) (kinds disk) (mounted new disk)
   unfolding mounted fileZones
-  invariant-mounted t disk ws =
+  invariant-mounted t disk ws possible =
       let b = is-block block (t .unit) in
       let good = report-told (blockSectors block) report (t .report) .zones in
       record {
@@ -62,16 +65,19 @@ module _ (block : ℕ) (superblock options report cnv seq : List ℕ) where
         plain = cnvs block superblock options report cnv seq;
         plainly = fill-listed cnv _ (t .cnvFit);
         covers = λ n h. covers-nth (covers-start b (aggregated superblock) ws good) n h;
-        held = tt;
+        possible = possible;
       }
 
   -- after any list of truthful events
   invariant-from : (disk : List DiskZone) → Start block superblock options report cnv seq disk → (events : List Event) → let first = mounted (mountOutcome block superblock options report cnv seq) disk in
       allTruthful first events ≡ true → Invariant (leaves block superblock options report cnv seq .mount .volume) (kinds disk) (run first events)
+  unfolding MountedPossible
   invariant-from disk s events =
       let t = accepts block superblock options report cnv seq (s .answer) in
       let shown = shows-told report disk (s .shown) in
-      rw (mount-leaves block superblock options report cnv seq t) (invariant-run (invariant-mounted t disk (shown .zones)) events)
+      let left = mount-leaves block superblock options report cnv seq t in
+      let possible = subst (λ (o : Mounting). Possible (engine.mounted o)) left (mounted-possible block superblock options report cnv seq (s .answer)) in
+      rw left (invariant-run (invariant-mounted t disk (shown .zones) possible) events)
 
 module _ (h : History) where
   abbrev w : System
@@ -205,3 +211,10 @@ always-started block superblock options report cnv seq zeroed =
     let good = report-told (blockSectors block) report (t .report) in
     let shown = zones-found (blockSectors block) 0 (zonesOf report) (good .zones) in
     (map zoneFound (zonesOf report), record { answer = zeroed; shown = report-shows (record { header = good .header; zones = shown }) })
+
+-- A CALL is never answered 10, nor 1 where there is a file.
+pub always-answered : AlwaysAnswered
+unfolding AlwaysAnswered NeverImpossible FilesAreFound
+always-answered h kind n x =
+    let p = invariant h .possible in
+    record { possible = never-impossible (after h .state) (Input.call kind n x) p; found = λ k l. files-are-found (after h .state) kind n x p k l }

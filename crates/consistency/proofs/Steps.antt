@@ -45,10 +45,11 @@ use Rattle.completion.specs.Completions.{Completion, failed, completionOf, comp
 use Rattle.completion.proofs.Laws.{effect-idle, effect-fixes}
 use Rattle.disk.specs.Disk.{DiskZone, Mishap, Choice, Performed, reported, moved, worsened, fallen, struck, perform, performedBy, allows, noZone}
 use Rattle.consistency.specs.FileHistory.{FileHistory}
-use Rattle.engine.specs.Engine.{Step, applied}
+use Rattle.engine.specs.Engine.{Input, applied}
 use Rattle.engine.specs.Engine as engine
-use Rattle.engine.specs.Facts.{stateOf}
-use Rattle.engine.proofs.Laws.{call-steps}
+use Rattle.engine.specs.Possible.{HeldPossible, Possible, StaysPossible}
+use Rattle.engine.proofs.Possible.{stays-possible}
+use Rattle.engine.proofs.Frame.{frame}
 use Rattle.disk.specs.Shows.{showsRecord}
 use Rattle.disk.proofs.Shows.{Recorded, record-told}
 use Rattle.consistency.specs.System.{System, holdsSeqFile, Event, call, mishap, doing, stray, placeOf, performIn, settledIn, doneBy, strayBy, step, run, truthfulBy, truthful, allTruthful}
@@ -61,15 +62,7 @@ use Rattle.consistency.proofs.Files.{Files, Own, own, alter, Inside, in
 use Rattle.consistency.proofs.Fits.{report-fits, inside-fits}
 use Rattle.consistency.proofs.Effects.{holdOf, Completed, good-completed, failed-completed}
 
--- THE INVARIANT. What is held is ready for its completion.
-pub record Holding (m : Mount) (c s : List ℕ) (h : Held) : Type 0 where
-  pub row : Row
-  pub ready : Ready m c s h row
-
-abbrev pub Holds : Outstanding → Mount → List ℕ → List ℕ → Type 0
-Holds Idle m c s = Unit {0}
-Holds (Busy h) m c s = Holding m c s h
-
+-- THE INVARIANT
 pub record Invariant (v : Volume) (ks : List FileKind) (w : System) : Type 0 where
   pub same : w .state .mount .volume ≡ v
   pub block : IsBlock (w .state .mount .volume .block)
@@ -80,43 +73,25 @@ pub record Invariant (v : Volume) (ks : List FileKind) (w : System) : Type 0 whe
   pub plain : List Row
   pub plainly : Listed (w .state .cnv) plain (w .state .mount .volume .conventional)
   pub covers : (n : ℕ) → n < w .state .mount .volume .conventional → Covers (w .state .mount .volume .block) (w .disk) (getD plain n noRow)
-  pub held : Holds (w .state .mount .outstanding) (w .state .mount) (w .state .cnv) (w .state .seq)
+  pub possible : Possible (w .state)
 
--- A CALL. What it issues is ready. (Calls don't examine the held command.)
-call-ready : (m : Mount) (c s : List ℕ) (k : FileKind) (n : ℕ) (x : Call) (d : Command) → answered m c s k n x ≡ Issue d → Holding (holding m (holdOf k n d)) c s (holdOf k n d)
-call-ready m c s k n x d e =
-    let (r, (p, g)) = call-passed m c s k n x d e in
-    record { row = r; ready = record { held = refl; reached = p .reached; issued = issuable-complete (m .readonly) (m .volume .block) k r x d g } }
-
--- the invariant with another mount value
-abbrev With : Volume → List FileKind → System → Mount → Type 0
-With v ks w m = Invariant v ks (record { state = stateOf m (w .state .cnv) (w .state .seq); disk = w .disk; histories = w .histories })
-
+-- A CALL leaves what the mount fixes and both tables.
 invariant-call : {v : Volume} {ks : List FileKind} {w : System} → Invariant v ks w → (kind n : ℕ) (x : Call) → Invariant v ks (step w (call kind n x))
-unfolding step effectBy
+unfolding step StaysPossible
 invariant-call {v} {ks} {w} r kind n x =
-    subst (λ (t : Step). Invariant v ks (record { state = t .state; disk = w .disk; histories = w .histories }))
-    (sym (call-steps (w .state .mount) (w .state .cnv) (w .state .seq) kind n x)) (by (isKind kind))
-  where
-    settles : (k : FileKind) (a : Answer) → answered (w .state .mount) (w .state .cnv) (w .state .seq) k n x ≡ a → With v ks w (settled (w .state .mount) k n a .outcome .mount)
-    settles k (Refused y) e = r
-    settles k (Done y) e = r
-    settles k (Issue d) e = record {
-      same = r .same;
-      block = r .block;
+    let k = frame .calls (w .state) kind n x in
+    record {
+      same = k .volume ∙ r .same;
+      block = rw (k .volume) (r .block);
       zones = r .zones;
       rows = r .rows;
-      listed = r .listed;
-      files = r .files;
+      listed = rw (k .volume, k .seq) (r .listed);
+      files = rw (k .volume) (r .files);
       plain = r .plain;
-      plainly = r .plainly;
-      covers = r .covers;
-      held = call-ready (w .state .mount) (w .state .cnv) (w .state .seq) k n x d e;
+      plainly = rw (k .volume, k .cnv) (r .plainly);
+      covers = rw (k .volume) (r .covers);
+      possible = stays-possible (w .state) (Input.call kind n x) (r .possible);
     }
-
-    by : (t : Bool) → With v ks w (cond t (calls.effectOf (w .state .mount) (w .state .cnv) (w .state .seq) (kindFrom kind) n x) (refusing (w .state .mount) (noKind (w .state .mount .volume) (length (w .state .cnv)) (length (w .state .seq)))) .outcome .mount)
-    by true = settles (kindFrom kind) (answered (w .state .mount) (w .state .cnv) (w .state .seq) (kindFrom kind) n x) refl
-    by false = r
 
 -- A MISHAP.
 invariant-mishap : {v : Volume} {ks : List FileKind} {w : System} → Invariant v ks w → (i : ℕ) (e : Mishap) → Invariant v ks (step w (mishap i e))
@@ -134,7 +109,7 @@ invariant-mishap {v} {ks} {w} r i e =
       plain = r .plain;
       plainly = r .plainly;
       covers = λ n h. covers-set (w .disk) i (fallen b z (z .pointer) (e .blocks)) (worsened (z .condition) (e .harm)) (r .covers n h);
-      held = r .held;
+      possible = r .possible;
     }
 
 -- WHAT THE DISK DOES with a command leaves the zone where it was.
@@ -185,8 +160,8 @@ module _ {v : Volume} {ks : List FileKind} {w : System} (r : Invariant v ks w) (
   abbrev row : Row
   row = getD (ofKind k (r .plain) (r .rows)) n noRow
 
-  hold : Holding (w .state .mount) (w .state .cnv) (w .state .seq) (holdOf k n c)
-  hold = subst (λ (x : Outstanding). Holds x (w .state .mount) (w .state .cnv) (w .state .seq)) e (r .held)
+  hold : HeldPossible (w .state) (holdOf k n c)
+  hold = r .possible .held (holdOf k n c) e
 
   pub known : n < filesOf k (w .state .mount .volume)
   known = hold .ready .reached .number
@@ -217,6 +192,25 @@ module _ {v : Volume} {ks : List FileKind} {w : System} (r : Invariant v ks w) (
     pub covers-after : (m : ℕ) → m < w .state .mount .volume .conventional → Covers (w .state .mount .volume .block) (set (w .disk) (placeOf w c) (done .zone)) (getD (r .plain) m noRow)
     covers-after m h = performed-moved (λ x. Covers (w .state .mount .volume .block) (set (w .disk) (placeOf w c) x) (getD (r .plain) m noRow)) _ _ _ c o (λ to x. covers-set (w .disk) (placeOf w c) to x (r .covers m h))
 
+    -- what the completion leaves has the invariant, with these rows of the seq files and of the cnv files
+    pub invariant-settled : (d : Effect) {ss : List FileHistory} (rows plain : List Row) → let vol = w .state .mount .volume in let disk = set (w .disk) (placeOf w c) (done .zone) in
+        d .outcome .mount .volume ≡ vol → Listed (stored Sequential (d .store) (w .state .seq)) rows (vol .sequential) → Files (vol .block) (vol .policy) 0 disk ss rows (vol .sequential)
+        → Listed (stored Conventional (d .store) (w .state .cnv)) plain (vol .conventional) → ((m : ℕ) → m < vol .conventional → Covers (vol .block) disk (getD plain m noRow))
+        → Possible (applied (w .state) d) → Invariant v ks (record { state = applied (w .state) d; disk = disk; histories = ss })
+    invariant-settled d rows plain u listed files plainly covers possible =
+        record {
+          same = u ∙ r .same;
+          block = rw u (r .block);
+          zones = zones-after;
+          rows = rows;
+          listed = rw u listed;
+          files = rw u files;
+          plain = plain;
+          plainly = rw u plainly;
+          covers = rw u covers;
+          possible = possible;
+        }
+
     module _ (given : Bool) (bytes : List ℕ) where
       abbrev pub new : Row
       new = completedRow k (done .succeeded) (w .state .mount .volume .policy) c (zoneAt given bytes 0) row
@@ -231,26 +225,6 @@ module _ {v : Volume} {ks : List FileKind} {w : System} (r : Invariant v ks w) (
               Completed (w .state .mount) (w .state .cnv) (w .state .seq) k n x (replied t c x) (effectOf (w .state .mount) (w .state .cnv) (w .state .seq) (completionBy t given bytes))
           by true long fits = good-completed (w .state .mount) (w .state .cnv) (w .state .seq) k n c row ready
           by false long fits = rw (failure-told given bytes (long refl)) (failed-completed (w .state .mount) (w .state .cnv) (w .state .seq) k n c row ready (zoneAt given bytes 0) (fits refl))
-
-      -- what the completion leaves has the invariant, with these rows of the seq files and of the cnv files
-      pub invariant-settled : {d : Effect} {a : Answer} {ss : List FileHistory} (rows plain : List Row) → let vol = w .state .mount .volume in let disk = set (w .disk) (placeOf w c) (done .zone) in
-          d .outcome .mount .volume ≡ vol → Completed (w .state .mount) (w .state .cnv) (w .state .seq) k n new a d
-          → Listed (stored Sequential (d .store) (w .state .seq)) rows (vol .sequential) → Files (vol .block) (vol .policy) 0 disk ss rows (vol .sequential)
-          → Listed (stored Conventional (d .store) (w .state .cnv)) plain (vol .conventional) → ((m : ℕ) → m < vol .conventional → Covers (vol .block) disk (getD plain m noRow))
-          → Invariant v ks (record { state = applied (w .state) d; disk = disk; histories = ss })
-      invariant-settled {d} rows plain u g listed files plainly covers =
-          record {
-            same = u ∙ r .same;
-            block = rw u (r .block);
-            zones = zones-after;
-            rows = rows;
-            listed = rw u listed;
-            files = rw u files;
-            plain = plain;
-            plainly = rw u plainly;
-            covers = rw u covers;
-            held = subst (λ (x : Outstanding). Holds x (d .outcome .mount) (stored Conventional (d .store) (w .state .cnv)) (stored Sequential (d .store) (w .state .seq))) (sym (g .idle)) tt;
-          }
 
 -- what a truthful doing tells of its bytes
 abbrev pub Told : System → Command → Choice → Bool → List ℕ → Type 0
@@ -280,12 +254,13 @@ module _ {v : Volume} {ks : List FileKind} {w : System} (r : Invariant v ks w) (
       seq-completed = completed r Sequential n c e o given bytes (λ f. told f .long) (λ f. report-fits (r .block) (owns e .agrees) c (issue r Sequential n c e) o (zoneAt given bytes 0) f (told f .shows))
 
       invariant-seq : Invariant v ks (settledIn w c (performIn w c o) answer)
-      unfolding engine.step
-      invariant-seq = invariant-settled r Sequential n c e o given bytes (set (r .rows) n (new r Sequential n c e o given bytes)) (r .plain) (effect-fixes (w .state .mount) (w .state .cnv) (w .state .seq) answer) seq-completed
+      unfolding engine.step StaysPossible
+      invariant-seq = invariant-settled r Sequential n c e o (effectOf (w .state .mount) (w .state .cnv) (w .state .seq) answer) (set (r .rows) n (new r Sequential n c e o given bytes)) (r .plain) (effect-fixes (w .state .mount) (w .state .cnv) (w .state .seq) answer)
           (listed-became (r .listed) (known r Sequential n c e) (seq-completed .here))
           (owns e .put _ _ _ (start-kept _ _ _ c o) (length-kept _ _ _ c o) (keeps-command (r .block) (owns e .agrees) c (issue r Sequential n c e) o (zoneAt given bytes 0) (λ f. told f .shows)))
           (rw (seq-completed .other Conventional (w .state .cnv) (λ q. kinds-differ (sym q))) (r .plainly))
           (covers-after r Sequential n c e o)
+          (stays-possible (w .state) (Input.completion answer) (r .possible))
 
     -- a command of a cnv file
     module _ (e : w .state .mount .outstanding ≡ Busy (holdOf Conventional n c)) where
@@ -294,13 +269,14 @@ module _ {v : Volume} {ks : List FileKind} {w : System} (r : Invariant v ks w) (
       cnv-completed = completed r Conventional n c e o given bytes (λ f. told f .long) (λ f. inside-fits (stood e) (told f .shows))
 
       invariant-cnv : Invariant v ks (settledIn w c (performIn w c o) answer)
-      unfolding engine.step
-      invariant-cnv = invariant-settled r Conventional n c e o given bytes (r .rows) (set (r .plain) n (new r Conventional n c e o given bytes)) (effect-fixes (w .state .mount) (w .state .cnv) (w .state .seq) answer) cnv-completed
+      unfolding engine.step StaysPossible
+      invariant-cnv = invariant-settled r Conventional n c e o (effectOf (w .state .mount) (w .state .cnv) (w .state .seq) answer) (r .rows) (set (r .plain) n (new r Conventional n c e o given bytes)) (effect-fixes (w .state .mount) (w .state .cnv) (w .state .seq) answer)
           (rw (cnv-completed .other Sequential (w .state .seq) kinds-differ) (r .listed))
           (alter (r .files) _ _ _ (start-kept _ _ _ c o) (length-kept _ _ _ c o) (file-kept _ _ _ c o) (λ s. stood e .sound) (λ x a. absurd (kinds-differ (sym (stands e .kind) ∙ a .kind))))
           (listed-became (r .plainly) (known r Conventional n c e) (cnv-completed .here))
           (λ m h. set-keeps (λ x. Covers (w .state .mount .volume .block) (set (w .disk) (placeOf w c) (performIn w c o .zone)) x) noRow (r .plain) n m (new r Conventional n c e o given bytes)
           (λ v. let q = plain-in-place (performIn w c o .succeeded) _ c _ _ in covers-same (q .0) (q .1) v) (covers-after r Conventional n c e o m h))
+          (stays-possible (w .state) (Input.completion answer) (r .possible))
 
 -- WHATEVER THE DISK DOES with the command that is held, the zone is good input.
 pub performed-sound : {v : Volume} {ks : List FileKind} {w : System} → Invariant v ks w → (k : FileKind) (n : ℕ) (c : Command) (o : Choice) → w .state .mount .outstanding ≡ Busy (holdOf k n c)

@@ -11,7 +11,6 @@ use Rattle.types.specs.declared.Call.{Call}
 use Rattle.types.specs.declared.Outstanding.the-variants.{Idle, Busy}
 use Rattle.types.specs.declared.ErrorPolicy.{ErrorPolicy}
 use Rattle.types.specs.Codes.{isKind, kindFrom}
-use Rattle.types.specs.Kinds.{filesOf}
 use Rattle.types.specs.Numbers.{mountNumber, answerNumber}
 use Rattle.table.specs.declared.Slot.the-variants.{Good}
 use Rattle.table.specs.Rows.{rowAt}
@@ -20,6 +19,7 @@ use Rattle.mount.specs.Mount.{Mounting, mountOutcome, policyOf}
 use Rattle.completion.specs.Completions.{completionBy}
 use Rattle.engine.specs.Engine.{Step, Input}
 use Rattle.engine.specs.Engine as engine
+use Rattle.engine.specs.Possible.{IsFile, impossible, noFile}
 use Rattle.disk.specs.Disk.{DiskZone, noZone, Choice, diskRecord, diskReport}
 use Rattle.disk.specs.Shows.{showsRecord, shows}
 use Rattle.consistency.specs.FileHistory.{FileHistory}
@@ -133,8 +133,8 @@ AlwaysDigested =
 
 -- a call on the file of a kind's number and a number is never answered 10, and never 1 where the file exists
 pub record Answered (s : System) (kind n : ℕ) (x : Call) : Type 0 where
-  pub possible : answerNumber (engine.step (s .state) (Input.call kind n x) .reply) ≢ 10
-  pub found : isKind kind ≡ true → n < filesOf (kindFrom kind) (s .state .mount .volume) → answerNumber (engine.step (s .state) (Input.call kind n x) .reply) ≢ 1
+  pub possible : answerNumber (engine.step (s .state) (Input.call kind n x) .reply) ≢ impossible
+  pub found : isKind kind ≡ true → IsFile (s .state) (kindFrom kind) n → answerNumber (engine.step (s .state) (Input.call kind n x) .reply) ≢ noFile
 
 unfoldable pub AlwaysAnswered : Type 0
 AlwaysAnswered = (h : History) (kind n : ℕ) (x : Call) → Answered (after h) kind n x

@@ -11,10 +11,11 @@ use Rattle.types.specs.declared.Held.{Held}
 use Rattle.types.specs.declared.FileKind.{FileKind}
 use Rattle.types.specs.declared.Call.{Call}
 use Rattle.types.specs.declared.Answer.{Answer}
+use Rattle.types.specs.declared.Refusal.the-variants as refusal
 use Rattle.types.specs.declared.Outstanding.the-variants.{Busy}
 use Rattle.types.specs.Codes.{isKind, kindFrom}
 use Rattle.types.specs.Kinds.{ofKind, filesOf}
-use Rattle.types.specs.Numbers.{answerNumber, mountNumber}
+use Rattle.types.specs.Numbers.{refusalNumber, answerNumber, mountNumber}
 use Rattle.table.specs.declared.Slot.the-variants.{Good}
 use Rattle.table.specs.Rows.{rowAt}
 use Rattle.mount.specs.Mount.{mountOutcome}
@@ -51,11 +52,11 @@ pub record Possible (s : State) : Type 0 where
 
 -- "mount value or tables impossible"
 abbrev pub impossible : ℕ
-impossible = 10
+impossible = refusalNumber refusal.Impossible
 
 -- "no such file or name"
 abbrev pub noFile : ℕ
-noFile = 1
+noFile = refusalNumber refusal.NoFile
 
 -- a mount answered 0 leaves what is possible
 unfoldable pub MountedPossible : Type 0
