@@ -152,8 +152,8 @@ enum {
 };
 
 /*
- * The words of a mount value. Words hold none where a number of 32 bits is above 0xFFFFFFFF, a mark above 1, or a code none of its codes;
- * where nothing is outstanding the words from ZONEFS_MOUNT_HELD_KIND on are written as 0.
+ * The words of a mount value. Words hold none where a number of 32 bits is above 0xFFFFFFFF, a mark above 1, or a code none of its codes.
+ * A mount, and a command that is no longer outstanding, leave 0 in the words from ZONEFS_MOUNT_HELD_KIND on.
  */
 enum {
   ZONEFS_MOUNT_BLOCK = 0,
@@ -227,7 +227,7 @@ uint64_t zonefs_show(const uint64_t *mount, size_t mount_words, const uint64_t *
  * The calls. Each reads mount words and tables, and writes the answer words and, of the mount words, those from ZONEFS_MOUNT_READ_ONLY on.
  * Returns 0 with one value (ZONEFS_AT_ONCE), where it is answered at once: the count, always 0; or 0 with three values (ZONEFS_COMMANDED),
  * where a command is to be done: the command, its byte address and its byte length. Such a command is outstanding, until zonefs_complete or
- * zonefs_fail. Or returns 1 to 6, 10, with no value, and the mount is as it was.
+ * zonefs_fail. Or returns 1 to 6, 10, with no value, and every mount word is as it was, as it is where the call is answered at once.
  * A read is cut at the file's size. A seq file is written at its size only, in whole blocks. A read, or a write to a cnv file, has no
  * alignment, and then neither has its command.
  */

@@ -22,7 +22,7 @@ use Rattle.engine.specs.Engine.{State, mounted, Input, call, completion, step, 
 use Rattle.engine.proofs.Laws.{step-fixes, step-holds}
 use Rattle.engine.proofs.Frame.{frame}
 use Rattle.answer_words.specs.Answers.{answerLength, answerWords, written}
-use Rattle.mount_words.specs.Words.{heldIn, possible, mountFrom, withState, Holds}
+use Rattle.mount_words.specs.Words.{heldIn, possible, withState, Holds}
 use Rattle.mount_words.proofs.Laws.{Valued, valued-from, written-back, state-back, state-stays}
 use Rattle.capi.specs.Interface.{Changed, told, unwritten, usable, stepWords, toldMounted, roomy, mountGiven}
 use Rattle.capi.specs.Chain.{stateIn, Keeps, Unchanged, runWords, StepKept, RefusedKept, MountKept, ChainKept}

@@ -8,7 +8,7 @@ use mathlib.Core.Path.{_≡_}
 use lib.ListN.{length, getD}
 use Rattle.types.specs.Numbers.{answerNumber}
 use Rattle.mount.specs.Mount.{mountOutcome}
-use Rattle.engine.specs.Engine.{State, mounted, Input, step, Run, run}
+use Rattle.engine.specs.Engine.{State, mounted, Input, step, run}
 use Rattle.mount_words.specs.Words.{mountFrom, Holds}
 use Rattle.capi.specs.Interface.{Changed, usable, stepWords, roomy, mountGiven}
 

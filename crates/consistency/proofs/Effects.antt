@@ -19,7 +19,7 @@ use Rattle.types.specs.declared.ErrorPolicy.the-variants.{RemountRo, ZoneRo, Zo
 use Rattle.types.specs.declared.Outstanding.the-variants.{Idle}
 use Rattle.types.specs.Kinds.{ofKind}
 use Rattle.types.specs.Mounts.{cleared}
-use Rattle.table.specs.Rows.{rowsLent, setRow, stored}
+use Rattle.table.specs.Rows.{rowsLent, stored}
 use Rattle.table.proofs.Stores.{stored-either}
 use Rattle.zones.specs.declared.Zone.{Zone}
 use Rattle.recovery.specs.Success.{rowAfter}

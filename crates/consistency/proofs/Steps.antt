@@ -8,7 +8,6 @@ use lib.ListN.{length, getD, set}
 use borrow.Author.Tests.{eq-eqb}
 use Rattle.types.specs.declared.Row.{Row}
 use Rattle.types.specs.declared.Volume.{Volume}
-use Rattle.types.specs.declared.Mount.{Mount}
 use Rattle.types.specs.declared.Held.{Held}
 use Rattle.types.specs.declared.Call.{Call}
 use Rattle.types.specs.declared.Command.{Command}
@@ -18,29 +17,22 @@ use Rattle.types.specs.declared.FileKind.the-variants.{Conventional, Sequential
 use Rattle.types.specs.declared.ErrorPolicy.{ErrorPolicy}
 use Rattle.types.specs.declared.Refusal.the-variants as refusal
 use Rattle.types.specs.declared.Answer.{Answer}
-use Rattle.types.specs.declared.Answer.the-variants.{Refused, Done, Issue}
+use Rattle.types.specs.declared.Answer.the-variants.{Refused, Done}
 use Rattle.types.specs.declared.Outstanding.{Outstanding}
 use Rattle.types.specs.declared.Outstanding.the-variants.{Idle, Busy}
 use Rattle.types.specs.Kinds.{ofKind, filesOf}
-use Rattle.types.specs.Codes.{isKind, kindFrom}
-use Rattle.types.specs.Effects.{refusing}
-use Rattle.types.specs.Mounts.{holding}
 use Rattle.types.proofs.Tests.{and-left, and-right}
 use Rattle.types.proofs.Blocks.{IsBlock}
 use Rattle.table.specs.declared.Slot.the-variants.{Good}
 use Rattle.table.specs.Rows.{rowAt, stored}
-use Rattle.checks.specs.Checks.{noKind}
-use Rattle.calls.specs.Calls.{answered, settled, effectBy}
 use Rattle.calls.specs.Calls as calls
 use Rattle.checks.proofs.Laws.{reached-sound}
-use Rattle.calls.proofs.Laws.{call-passed}
 use Rattle.zones.specs.declared.Zone.{Zone}
 use Rattle.zones.specs.Zone.{zoneBytes, zoneAt}
 use Rattle.types.specs.declared.Effect.{Effect}
 use Rattle.recovery.specs.Fits.{recordFits}
 use Rattle.recovery.specs.Recovery.{nothingLost, recoveredRow}
 use Rattle.held.specs.Facts.{Ready}
-use Rattle.held.proofs.Issuable.{issuable-complete}
 use Rattle.completion.specs.Completions.{Completion, failed, completionOf, completionBy, effectOf}
 use Rattle.completion.proofs.Laws.{effect-idle, effect-fixes}
 use Rattle.disk.specs.Disk.{DiskZone, Mishap, Choice, Performed, reported, moved, worsened, fallen, struck, perform, performedBy, allows, noZone}

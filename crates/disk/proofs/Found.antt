@@ -1,18 +1,17 @@
 -- Zones that are good input are shown by a disk: the one that has what they say.
 -- Assumes nothing.
-use mathlib.Core.Bool.{Bool, true, false, not, cond, _&&_, _||_, false≢true}
+use mathlib.Core.Bool.{Bool, true, false, not, cond, _&&_, _||_}
 use mathlib.Core.List.{List, [], _∷_, map}
-use mathlib.Core.Path.{_≡_, refl, sym, _∙_}
+use mathlib.Core.Path.{_≡_, refl}
 use Prim.Native.Nat.{ℕ, _+_}
 use lib.Dec.{leb, eqb}
 use Rattle.types.specs.declared.FileKind.{FileKind}
 use Rattle.types.specs.declared.FileKind.the-variants.{Conventional, Sequential}
-use Rattle.types.specs.declared.Condition.{Condition}
 use Rattle.types.specs.declared.Condition.the-variants.{Healthy, ReadOnly, Offline}
 use Rattle.types.specs.Blocks.{onBlock}
 use Rattle.types.proofs.Tests.{both, and-right, means-out}
 use Rattle.zones.specs.declared.Zone.{Zone}
-use Rattle.zones.specs.Zone.{conventional, sequential, conditionOf, healthy, conventionalCondition, sequentialCondition, pointsWell, goodRecord}
+use Rattle.zones.specs.Zone.{conventional, sequential, conditionOf, healthy, conventionalCondition, sequentialCondition, pointsWell}
 use Rattle.zones.proofs.Laws.{GoodRecord, record-told, zone-told}
 use Rattle.report.proofs.Laws.{AllGood}
 use Rattle.disk.specs.Disk.{DiskZone}

@@ -13,7 +13,7 @@ use Rattle.types.specs.declared.Condition.{Condition}
 use Rattle.types.specs.declared.Condition.the-variants.{Healthy, ReadOnly, Offline}
 use Rattle.types.specs.Blocks.{mostZones}
 use Rattle.zones.specs.declared.Zone.{Zone}
-use Rattle.zones.specs.Zone.{zoneAt, encodeZone}
+use Rattle.zones.specs.Zone.{zoneAt}
 use Rattle.zones.proofs.Encoded.{ReadBack, read-back, more-bytes, Bytes, record-bytes, byte-at}
 use Rattle.report.proofs.Encoded.{AllReadBack, ByteKinds, encoded-header, encoded-zones, encoded-bytes}
 use Rattle.disk.specs.Disk.{DiskZone, noZone, typeByte, healthyByte, conditionByte, reported, diskRecord, diskReport}

@@ -1,22 +1,19 @@
 -- The tests of what is shown, and what they tell, in both directions.
 -- Assumes nothing.
-use mathlib.Core.Bool.{Bool, true, false, not, _&&_, _||_, false≢true}
+use mathlib.Core.Bool.{Bool, true, false, not, _||_, false≢true}
 use mathlib.Core.List.{List, [], _∷_}
-use mathlib.Core.Path.{_≡_, refl, ap, _∙_}
+use mathlib.Core.Path.{_≡_, refl}
 use Prim.Native.Nat.{ℕ}
 use lib.Dec.{eqb}
 use lib.ListN.{length}
 use borrow.Author.Tests.{eqb-true, eq-eqb}
-use Rattle.types.specs.declared.FileKind.{FileKind}
-use Rattle.types.specs.declared.FileKind.the-variants.{Conventional, Sequential}
-use Rattle.types.specs.declared.Condition.the-variants.{Healthy}
-use Rattle.types.specs.Predicates.{isConventional, isHealthy}
+use Rattle.types.specs.Predicates.{isHealthy}
 use Rattle.types.proofs.Tests.{both, and-left, and-right, means-in, means-out}
 use Rattle.zones.specs.declared.Zone.{Zone}
 use Rattle.zones.specs.Zone.{zoneBytes, zoneAt}
 use Rattle.report.specs.Report.{goodHeader, zonesOf}
 use Rattle.disk.specs.Disk.{DiskZone, hasPointer}
-use Rattle.disk.specs.Shows.{showsKind, showsCondition, showsPlace, showsZone, showsRecord, showsZones, shows}
+use Rattle.disk.specs.Shows.{showsKind, showsCondition, showsZone, showsRecord, showsZones, shows}
 use Rattle.disk.specs.Facts.{ShowsZone, ShowsZones, none, next, Shows}
 use Rattle.disk.proofs.Conditions.{healthy-is, sequential-is}
 

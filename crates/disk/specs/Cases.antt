@@ -13,8 +13,7 @@ use Rattle.types.specs.declared.CommandKind.the-variants.{Read, Write, Reset, F
 use Rattle.types.specs.Blocks.{bytesOf}
 use Rattle.types.specs.Codes.{flagCode, conditionCode}
 use Rattle.types.specs.Stated.{Case, is, AsStated}
-use Rattle.zones.specs.declared.Zone.{Zone}
-use Rattle.disk.specs.Disk.{DiskZone, zoneHolding, Harm, none, toReadOnly, toOffline, Mishap, struck, Choice, Performed, perform, reported}
+use Rattle.disk.specs.Disk.{DiskZone, zoneHolding, Harm, none, toReadOnly, toOffline, Mishap, struck, Performed, perform, reported}
 use Rattle.disk.specs.Shows.{showsZone}
 
 abbrev pub zoneWith : FileKind → ℕ → Condition → DiskZone

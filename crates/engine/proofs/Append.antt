@@ -1,6 +1,6 @@
 -- A permitted append is issued as its one command, and no other write to a sequential file is.
 -- Assumes nothing.
-use Prim.Native.Nat.{ℕ, _+_, _%_, _≤_, _<_}
+use Prim.Native.Nat.{ℕ, _%_}
 use native.Mathlib.Omega.{arith}
 use mathlib.Core.Bool.{Bool, true, false, not, _&&_, _||_}
 use mathlib.Core.Path.{_≡_, refl, sym, ap, _∙_}
@@ -15,15 +15,15 @@ use Rattle.types.specs.declared.Access.the-variants as access
 use Rattle.types.specs.declared.Answer.{Answer}
 use Rattle.types.specs.declared.Answer.the-variants.{Refused, Done, Issue}
 use Rattle.types.specs.Blocks.{onBlock}
-use Rattle.types.proofs.Tests.{both, and-left, and-right, or-left, or-right}
+use Rattle.types.proofs.Tests.{and-right, or-left, or-right}
 use Rattle.checks.proofs.Laws.{reached-sound}
-use Rattle.decision.specs.Decision.{unwritable, misplaced, writeRow, dispatched}
+use Rattle.decision.specs.Decision.{unwritable, misplaced}
 use Rattle.decision.proofs.Laws.{write-issued, write-issues, dispatch-passed, dispatch-passes}
 use Rattle.calls.specs.Calls.{answered, settled, effectBy}
 use Rattle.calls.proofs.Laws.{call-passed, call-passes}
 use Rattle.engine.specs.Engine.{State}
 use Rattle.engine.specs.Facts.{stepOf}
-use Rattle.engine.specs.Append.{Permitted, appendCommand, write, commanded, AppendCommanded, OnlyAppends}
+use Rattle.engine.specs.Append.{Permitted, appendCommand, write, AppendCommanded, OnlyAppends}
 use Rattle.engine.proofs.Laws.{call-steps}
 
 -- A WRITE, by what its row answers

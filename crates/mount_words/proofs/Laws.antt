@@ -30,7 +30,7 @@ use Rattle.types.proofs.Volumes.{BoundedVolume}
 use Rattle.wire.specs.Le.{le, little}
 use Rattle.wire.proofs.Laws.{length-little, little-le}
 use Rattle.answer_words.specs.Answers.{written}
-use Rattle.mount_words.specs.Words.{mountLength, volumeWords, heldIn, heldWords, outstandingWords, stateAt, outstandingAt, mountWords, word, short, isFlag, isPolicy, isCommand, goodVolume, goodState, possible, shortOf, flagFrom, volumeFrom, heldFrom, outstandingFrom, mountFrom, withOutstanding, withState, Holds}
+use Rattle.mount_words.specs.Words.{mountLength, heldIn, heldWords, outstandingWords, stateAt, outstandingAt, mountWords, word, short, isFlag, isPolicy, isCommand, goodVolume, goodState, possible, shortOf, flagFrom, volumeFrom, heldFrom, outstandingFrom, mountFrom, withOutstanding, withState, Holds}
 
 -- CODES, back from their words, and within their codes
 

@@ -2,23 +2,21 @@
 -- Assumes nothing.
 use mathlib.Core.Path.{_≡_, refl, sym, ap, _∙_}
 use mathlib.Core.List.{List, [], _++_, append-assoc, append-nil}
-use mathlib.Core.Bool.{Bool, true, false, cond, false≢true, _&&_, _||_}
+use mathlib.Core.Bool.{Bool, true, false, cond, false≢true}
 use Prim.Native.Nat.{ℕ, zero, suc, _+_, _≤_, _<_}
 use native.Mathlib.Omega.{arith}
-use lib.Dec.{leb, ltb}
-use lib.ListN.{length, drop, length-append}
+use lib.ListN.{length, length-append}
 use borrow.Author.Tests.{lt-ltb, leb-true}
 use Rattle.types.proofs.Tests.{both, and-left, and-right, cases}
 use Rattle.tape_records.specs.declared.Mark.{Mark}
 use Rattle.tape_records.specs.declared.Mark.the-variants as mark
-use Rattle.tape_records.specs.declared.Record.{Record}
-use Rattle.tape_records.specs.declared.Record.the-variants.{OnFile, End, Broken}
+use Rattle.tape_records.specs.declared.Record.the-variants.{Broken}
 use Rattle.tape_records.specs.Records.{holds, recordBytes, recordOf, markAt, markedAt, recordAt}
 use Rattle.tape_lines.specs.Facts.{lineRoom}
 use Rattle.engine.specs.Engine.{State}
 use Rattle.tape_turns.specs.Turns.{Rest, Turn, turnOf, turnAt}
-use Rattle.tape.specs.Tape.{goesFurther, textFrom}
-use Rattle.tape.specs.Blocks.{longestRecord, isTold, hasRoom, isReady, lineThen, blockFrom}
+use Rattle.tape.specs.Tape.{goesFurther}
+use Rattle.tape.specs.Blocks.{longestRecord, isTold, isReady, blockFrom}
 use Rattle.tape.proofs.Windows.{turn-follows}
 use Rattle.tape.proofs.Texts.{textOf, onward, inside, text-next}
 

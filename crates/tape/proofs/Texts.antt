@@ -6,10 +6,10 @@ use mathlib.Core.Bool.{Bool, true, false, cond, false≢true, _&&_}
 use Prim.Native.Nat.{ℕ, zero, suc, _+_, _-_, _≤_, _<_}
 use native.Mathlib.Omega.{arith}
 use native.Mathlib.Nat.{add-zero}
-use lib.Dec.{leb, ltb}
+use lib.Dec.{ltb}
 use lib.ListN.{length, drop, length-append, length-drop}
 use lib.Seq.{drop-append-le}
-use borrow.Author.Tests.{ltb-true, ltb-false, lt-ltb, le-ltb, leb-true}
+use borrow.Author.Tests.{ltb-true, ltb-false, lt-ltb, le-ltb}
 use Rattle.types.proofs.Tests.{and-left, and-right, cases}
 use Rattle.tape_records.specs.declared.Record.{Record}
 use Rattle.tape_records.specs.declared.Record.the-variants.{OnFile, End, Broken}
@@ -18,7 +18,7 @@ use Rattle.engine.specs.Engine.{State}
 use Rattle.tape_turns.specs.Turns.{Rest, turnOf, turnAt}
 use Rattle.tape.specs.Tape.{goesFurther, textFrom}
 use Rattle.tape.specs.Blocks.{atFront}
-use Rattle.tape.proofs.Windows.{ahead, turn-before}
+use Rattle.tape.proofs.Windows.{turn-before}
 
 -- ---- record by record
 

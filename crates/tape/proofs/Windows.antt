@@ -1,14 +1,13 @@
 -- A record, read from a part of a tape: neither what stands before it nor what follows it matters.
 -- Assumes nothing.
 use mathlib.Core.Path.{_≡_, refl, sym, ap, _∙_}
-use mathlib.Core.List.{List, [], _++_}
-use mathlib.Core.Bool.{Bool, true, false, cond}
+use mathlib.Core.List.{List, _++_}
+use mathlib.Core.Bool.{Bool, true, false}
 use Prim.Native.Nat.{ℕ, zero, suc, _+_, _≤_, _<_}
 use native.Mathlib.Omega.{arith}
 use native.Mathlib.Nat.{add-zero, zero-add, add-assoc}
 use lib.ListN.{length, getD, take, drop, length-append, length-drop, List·getD-append}
 use lib.Seq.{getD-drop, drop-drop, drop-append-le, take-append-le}
-use borrow.Author.Tests.{le-leb}
 use Rattle.types.proofs.Tests.{leb-same}
 use Rattle.types.specs.declared.Call.{Call}
 use Rattle.types.specs.declared.Call.the-variants as call

@@ -13,7 +13,7 @@ use Rattle.tape_lines.specs.Facts.{lineRoom}
 use Rattle.tape_turns.specs.Turns.{Rest, Turn, openTurn}
 use Rattle.tape.specs.Tape.{textWith, noRows, tapeText}
 use Rattle.tape.specs.Blocks.{longestRecord, isTold, isReady, blockOf}
-use Rattle.tape_pieces.specs.Pieces.{Holding, Part, partBy, partOf, Piece, firstPart, nextPart, linesFrom, heldAfter, joined, InOrder, longestOpening, Handed, isOver, isThrough, WritesTape, GetsOn}
+use Rattle.tape_pieces.specs.Pieces.{Holding, Part, partBy, partOf, Piece, firstPart, nextPart, linesFrom, heldAfter, joined, InOrder, longestOpening, isThrough, WritesTape, GetsOn}
 use Rattle.tape.proofs.Texts.{textOf, no-text, text-kept}
 use Rattle.tape.proofs.Blocks.{Follows, Inside, block-text, block-inside, block-onward}
 use Rattle.tape_pieces.proofs.Openings.{opening-follows, opening-inside}
