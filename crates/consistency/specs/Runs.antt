@@ -3,6 +3,7 @@
 use mathlib.Core.Bool.{Bool, true, false}
 use mathlib.Core.List.{List, [], _∷_, _++_}
 use Prim.Native.Nat.{ℕ, _*_}
+use lib.ListN.{set}
 use Rattle.types.specs.declared.FileKind.{FileKind}
 use Rattle.types.specs.declared.FileKind.the-variants.{Conventional, Sequential}
 use Rattle.types.specs.declared.Condition.{Condition}
@@ -87,9 +88,13 @@ tries r = doing (record { fails = false; lands = 0; mishap = falls 0 }) true (en
 abbrev pub done : Event
 done = doing (record { fails = false; lands = 0; mishap = falls 0 }) false []
 
--- it fails after so many blocks, with a mishap, and reports this record
+-- it fails after so many blocks, with a mishap
+abbrev pub failing : ℕ → Mishap → Choice
+failing lands e = record { fails = true; lands = lands; mishap = e }
+
+-- and reports this record
 abbrev pub fails : ℕ → Mishap → Zone → Event
-fails lands e r = doing (record { fails = true; lands = lands; mishap = e }) true (encodeZone r)
+fails lands e r = doing (failing lands e) true (encodeZone r)
 
 -- a record of zone 3: type, condition and pointer
 abbrev pub zone3 : ℕ → ℕ → ℕ → Zone
@@ -151,11 +156,13 @@ module _ (under : Setting → ErrorPolicy → Mounting) where
   -- what a command does, and what its failure leaves
   unfoldable pub commandRuns : List Case
   commandRuns =
-      -- a write that is done; one of which a block lands, in three truthful records: type 2 or 3, any condition byte that fits
+      -- a write that is done; one of which a block lands, in truthful records of either type, with any condition byte that fits
       on0 Repair (write ∷ done ∷ []) (0 ∷ 0 ∷ []) (12288 ∷ 2 ∷ 12288 ∷ 2 ∷ 1 ∷ 12288 ∷ 0 ∷ [])
       ∷ on0 Repair (write ∷ fails 1 (falls 0) (zone3 2 2 1572880) ∷ []) (0 ∷ 7 ∷ []) (8192 ∷ 2 ∷ 8192 ∷ 2 ∷ 1 ∷ 8192 ∷ 0 ∷ [])
       ∷ on0 Repair (write ∷ fails 1 (falls 0) (zone3 3 4 1572880) ∷ []) (0 ∷ 7 ∷ []) (8192 ∷ 2 ∷ 8192 ∷ 2 ∷ 1 ∷ 8192 ∷ 0 ∷ [])
       ∷ on0 Repair (write ∷ fails 2 (falls 0) (zone3 3 1 1572888) ∷ []) (0 ∷ 7 ∷ []) (12288 ∷ 2 ∷ 12288 ∷ 2 ∷ 1 ∷ 12288 ∷ 0 ∷ [])
+      -- bytes that are ignored may be anything
+      ∷ on0 Repair (write ∷ doing (failing 1 (falls 0)) true (set (encodeZone (zone3 2 2 1572880)) 63 9) ∷ []) (0 ∷ 7 ∷ []) (8192 ∷ 2 ∷ 8192 ∷ 2 ∷ 1 ∷ 8192 ∷ 0 ∷ [])
       -- a reset, a finish and a flush, each done and failed
       ∷ on0 Repair (reset ∷ done ∷ []) (0 ∷ 0 ∷ []) (0 ∷ 2 ∷ 0 ∷ 2 ∷ 1 ∷ 0 ∷ 0 ∷ [])
       ∷ on0 Repair (reset ∷ fails 0 (falls 0) (zone3 2 2 1572872) ∷ []) (0 ∷ 7 ∷ []) (4096 ∷ 2 ∷ 4096 ∷ 2 ∷ 1 ∷ 4096 ∷ 0 ∷ [])
@@ -227,6 +234,9 @@ module _ (under : Setting → ErrorPolicy → Mounting) where
       ∷ is (seenOf cnvSeen (startIn paper RemountRo) (cnv0 (Call.Write 8192 100) ∷ done ∷ [])) (truly (0 ∷ 0 ∷ []) (268435456 ∷ 2 ∷ 0 ∷ 0 ∷ 0 ∷ 0 ∷ 0 ∷ 0 ∷ []))
       ∷ is (seenOf cnvSeen (startIn paper RemountRo) (cnv0 (Call.Write 8192 100) ∷ fails 0 (falls 0) (zone 1 1 0 524288 9) ∷ []))
       (truly (0 ∷ 7 ∷ []) (268435456 ∷ 2 ∷ 0 ∷ 0 ∷ 0 ∷ 0 ∷ 0 ∷ 1 ∷ []))
+      -- where the flag "capacity given" is clear, the record's capacity is its length, whatever it says
+      ∷ is (seenOf cnvSeen (startIn paper Repair) (cnv0 (Call.Read 0 100) ∷ doing (failing 0 (worsens toOffline)) false (encodeZone (zone 1 1 15 7 9)) ∷ []))
+      (truly (0 ∷ 7 ∷ []) (0 ∷ 0 ∷ 0 ∷ 2 ∷ 0 ∷ 0 ∷ 0 ∷ 0 ∷ []))
       -- an aggregated run: the zone at the command's address is its second
       ∷ is (seenOf cnvSeen (startIn aggregated Repair) (cnv0 (Call.Write 268435456 4096) ∷ fails 0 (worsens toReadOnly) (zone 2 1 13 524288 0) ∷ []))
       (truly (0 ∷ 7 ∷ []) (536870912 ∷ 1 ∷ 0 ∷ 0 ∷ 1 ∷ 0 ∷ 0 ∷ 0 ∷ []))
