@@ -26,8 +26,8 @@ use Rattle.mount.specs.Mount.{Mounting, fileZones, policyOf, aggregated, mountO
 use Rattle.report.proofs.Laws.{framed, zones-length, AllGood, report-told, report-good}
 use Rattle.engine.specs.Engine.{Input}
 use Rattle.engine.specs.Engine as engine
-use Rattle.engine.specs.Possible.{Possible, MountedPossible, NeverImpossible, FilesAreFound}
-use Rattle.engine.proofs.Possible.{mounted-possible, never-impossible, files-are-found}
+use Rattle.consistency.specs.Possible.{Possible, MountedPossible, NeverImpossible, FilesAreFound}
+use Rattle.consistency.proofs.Possible.{mounted-possible, never-impossible, files-are-found}
 use Rattle.disk.specs.Disk.{DiskZone}
 use Rattle.disk.specs.Facts.{Shows, ShowsZones}
 use Rattle.disk.specs.Facts as shows

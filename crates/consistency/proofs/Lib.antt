@@ -1,3 +1,9 @@
+pub mod SoundRows
+pub mod Rows
+pub mod Mounted
+pub mod Kept
+pub mod Replies
+pub mod Possible
 pub mod Shown
 pub mod Agrees
 pub mod Mishaps

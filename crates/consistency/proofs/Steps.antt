@@ -39,8 +39,8 @@ use Rattle.disk.specs.Disk.{DiskZone, Mishap, Choice, Performed, reported, move
 use Rattle.consistency.specs.FileHistory.{FileHistory}
 use Rattle.engine.specs.Engine.{Input, applied}
 use Rattle.engine.specs.Engine as engine
-use Rattle.engine.specs.Possible.{HeldPossible, Possible, StaysPossible}
-use Rattle.engine.proofs.Possible.{stays-possible}
+use Rattle.consistency.specs.Possible.{HeldPossible, Possible, StaysPossible}
+use Rattle.consistency.proofs.Possible.{stays-possible}
 use Rattle.engine.proofs.Frame.{frame}
 use Rattle.disk.specs.Shows.{showsRecord}
 use Rattle.disk.proofs.Shows.{Recorded, record-told}

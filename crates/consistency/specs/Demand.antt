@@ -19,7 +19,7 @@ use Rattle.mount.specs.Mount.{Mounting, mountOutcome, policyOf}
 use Rattle.completion.specs.Completions.{completionBy}
 use Rattle.engine.specs.Engine.{Step, Input}
 use Rattle.engine.specs.Engine as engine
-use Rattle.engine.specs.Possible.{IsFile, impossible, noFile}
+use Rattle.consistency.specs.Possible.{IsFile, impossible, noFile}
 use Rattle.disk.specs.Disk.{DiskZone, noZone, Choice, diskRecord, diskReport}
 use Rattle.disk.specs.Shows.{showsRecord, shows}
 use Rattle.consistency.specs.FileHistory.{FileHistory}

@@ -1,3 +1,4 @@
+pub mod Possible
 pub mod FileHistory
 pub mod System
 pub mod Claim

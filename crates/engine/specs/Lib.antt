@@ -2,4 +2,3 @@ pub mod Append
 pub mod Engine
 pub mod Facts
 pub mod Frame
-pub mod Possible

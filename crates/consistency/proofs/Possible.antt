@@ -16,12 +16,12 @@ use Rattle.mount.specs.Mount.{Mounting, mountOutcome}
 use Rattle.mount.proofs.Leaves.{accepts, mount-leaves}
 use Rattle.checks.specs.Checks.{noKind}
 use Rattle.calls.specs.Calls as calls
 use Rattle.engine.specs.Engine.{State, mounted, Input, call, completion, step, run}
-use Rattle.engine.specs.Possible.{Possible, impossible, MountedPossible, StaysPossible, NeverImpossible, FilesAreFound, NoneIs, RunNeverImpossible, RunFindsFiles}
+use Rattle.consistency.specs.Possible.{Possible, impossible, MountedPossible, StaysPossible, NeverImpossible, FilesAreFound, NoneIs, RunNeverImpossible, RunFindsFiles}
 use Rattle.engine.proofs.Laws.{run-fixes}
-use Rattle.engine.proofs.Mounted.{leaves-possible}
-use Rattle.engine.proofs.Kept.{call-possible, completion-possible}
-use Rattle.engine.proofs.Replies.{file-ordinary, call-answer, completion-answer, settled-answer}
+use Rattle.consistency.proofs.Mounted.{leaves-possible}
+use Rattle.consistency.proofs.Kept.{call-possible, completion-possible}
+use Rattle.consistency.proofs.Replies.{file-ordinary, call-answer, completion-answer, settled-answer}
 
 -- A MOUNT ANSWERED 0 leaves what is possible.
 pub mounted-possible : MountedPossible

@@ -19,9 +19,9 @@ use Rattle.mount.specs.Mount.{fileZones, aggregated}
 use Rattle.mount.proofs.Leaves.{cnvs, seqs, Accepts, leaves}
 use Rattle.mount.proofs.Tables.{filled-row, fill-length}
 use Rattle.checks.proofs.Laws.{counts-in, row-sound}
 use Rattle.engine.specs.Engine.{State, mounted}
-use Rattle.engine.specs.Possible.{IsFile, RowPossible, Possible}
-use Rattle.engine.proofs.Rows.{AllSound, sound-nth, seq-rows-sound, cnv-rows-sound}
+use Rattle.consistency.specs.Possible.{IsFile, RowPossible, Possible}
+use Rattle.consistency.proofs.Rows.{AllSound, sound-nth, seq-rows-sound, cnv-rows-sound}
 
 abbrev noRow : Row
 noRow = offlineRow 0 0

@@ -35,9 +35,9 @@ use Rattle.recovery.specs.Recovery.{nothingLost, recoveredRow}
 use Rattle.completion.specs.Completions.{Completion, good, failed, malformed, succeeded, recovered, failing, recovering, effectOn}
 use Rattle.completion.specs.Completions as completions
 use Rattle.completion.proofs.Laws.{effect-ready, effect-idle}
 use Rattle.engine.specs.Engine.{State}
-use Rattle.engine.specs.Possible.{IsFile, Possible, impossible, noFile}
-use Rattle.engine.proofs.Kept.{possible-call}
+use Rattle.consistency.specs.Possible.{IsFile, Possible, impossible, noFile}
+use Rattle.consistency.proofs.Kept.{possible-call}
 
 -- an answer, and what checks find, that is neither
 pub record Ordinary (a : Answer) : Type 0 where

@@ -49,9 +49,9 @@ use Rattle.recovery.specs.Fits.{recordFits}
 use Rattle.recovery.specs.Recovery.{nothingLost, recoveredRow}
 use Rattle.completion.specs.Completions.{Completion, good, failed, malformed, succeeded, recovered, markedBy, failing, recovering, effectOn, effectPending}
 use Rattle.completion.specs.Completions as completions
-use Rattle.completion.proofs.Sound.{success-sound, recovered-sound}
+use Rattle.consistency.proofs.SoundRows.{success-sound, recovered-sound}
 use Rattle.engine.specs.Engine.{State, applied}
-use Rattle.engine.specs.Possible.{IsFile, HeldPossible, Possible}
+use Rattle.consistency.specs.Possible.{IsFile, HeldPossible, Possible}
 
 -- A FILE passes 10 (counts), 1 and 10 (row).
 pub possible-call : {s : State} → Possible s → (k : FileKind) (n : ℕ) → IsFile s k n → (r : Row) × Reached (s .mount .volume) (s .cnv) (s .seq) k n r
