@@ -139,11 +139,11 @@ fn end_command(
         return IMPOSSIBLE;
     }
     let m = mount_words::mount_from(&w[..]);
-    if done {
-        tell(w, a, engine::complete(m, cnv, seq))
-    } else {
-        tell(w, a, engine::fail(m, cnv, seq, bytes, given))
-    }
+    tell(
+        w,
+        a,
+        engine::end_command(m, cnv, seq, done, bytes, given),
+    )
 }
 
 // The outstanding command was done well.

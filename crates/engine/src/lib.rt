@@ -2,7 +2,7 @@
 ghost use mathlib.Core.Path.{_≡_};
 ghost use Rattle.types.specs.declared.Mount.{Mount};
 ghost use Rattle.table.specs.Facts.{StoreFits};
-ghost use Rattle.completion.specs.Completions.{Completion, completionOf};
+ghost use Rattle.completion.specs.Completions.{Completion, completionOf, completionBy};
 ghost use Rattle.engine.specs.Engine.{Input, stepBy, step};
 ghost use Rattle.engine.specs.Facts.{stateOf, stepOf};
 use types::Call;
@@ -28,18 +28,32 @@ pub fn call(m: Mount, cnv: &[u64], seq: &[u64], kind: u64, number: u32, x: Call)
     effect.outcome
 }
 
+// The outstanding command was done well, or it failed: then the bytes are its zone's record, and `given` says that the record states a
+// capacity. For those that are told by a flag which of both it is.
+pub fn end_command(
+    m: Mount,
+    cnv: &mut [u64],
+    seq: &mut [u64],
+    done: bool,
+    bytes: &[u8],
+    given: bool,
+) -> Outcome
+    ensures { λ r. ⌜ step (stateOf m (now (cnv .entry)) (now (seq .entry))) (Input.completion (completionBy done given (now (bytes .entry)))) ≡ stepOf r (now (cnv .exit)) (now (seq .exit)) ⌝ }
+{
+    let effect = completion::end_command(m, &cnv[..], &seq[..], done, bytes, given);
+    apply(cnv, seq, effect)
+}
+
 // The outstanding command was done well.
 pub fn complete(m: Mount, cnv: &mut [u64], seq: &mut [u64]) -> Outcome
     ensures { λ r. ⌜ step (stateOf m (now (cnv .entry)) (now (seq .entry))) (Input.completion Completion.good) ≡ stepOf r (now (cnv .exit)) (now (seq .exit)) ⌝ }
 {
-    let effect = completion::end_command(m, &cnv[..], &seq[..], true, b"", false);
-    apply(cnv, seq, effect)
+    end_command(m, cnv, seq, true, b"", false)
 }
 
-// The outstanding command failed. The bytes are its zone's record, and `given` says that the record states a capacity.
+// The outstanding command failed.
 pub fn fail(m: Mount, cnv: &mut [u64], seq: &mut [u64], bytes: &[u8], given: bool) -> Outcome
     ensures { λ r. ⌜ step (stateOf m (now (cnv .entry)) (now (seq .entry))) (Input.completion (completionOf given (now (bytes .entry)))) ≡ stepOf r (now (cnv .exit)) (now (seq .exit)) ⌝ }
 {
-    let effect = completion::end_command(m, &cnv[..], &seq[..], false, bytes, given);
-    apply(cnv, seq, effect)
+    end_command(m, cnv, seq, false, bytes, given)
 }

@@ -69,18 +69,7 @@ fn broken_turn(at: usize, m: Mount, out: &mut [u8], to: usize) -> Turned
     }
 }
 
-// The end of a command: it was done, or it failed, and a tape's record always states a capacity.
-fn end_command(m: Mount, cnv: &mut [u64], seq: &mut [u64], done: bool, bytes: &[u8]) -> Outcome
-    ensures { λ r. ⌜ step (stateOf m (now (cnv .entry)) (now (seq .entry))) (Input.completion (completionBy done true (now (bytes .entry)))) ≡ stepOf r (now (cnv .exit)) (now (seq .exit)) ⌝ }
-{
-    if done {
-        engine::complete(m, cnv, seq)
-    } else {
-        engine::fail(m, cnv, seq, bytes, true)
-    }
-}
-
-// The turn of the end of a command, that it was done or that it failed.
+// The turn of the end of a command, that it was done or that it failed. A record on a tape always states a capacity.
 fn end_turn(
     b: &[u8],
     at: usize,
@@ -97,7 +86,7 @@ fn end_turn(
     let next = at + tape_records::end_bytes(done);
     let record = tape_records::end_record(b, at, done);
     let mark = tape_records::end_mark(done);
-    let o = end_command(m, cnv, seq, done, record);
+    let o = engine::end_command(m, cnv, seq, done, record, true);
     let answer = o.answer;
     let mount = o.mount;
     let end = tape_lines::put_completion_line(out, to, mark, answer);

@@ -18,17 +18,11 @@ returns c = rw (sym (c .before .is-usable .ensures .0) ∙ not-true _ (c .if1 .t
 mount-from-requires : tie.Need-mount-from-requires
 mount-from-requires c κs = c .before .before .is-usable .ensures .1 (not-false _ (c .before .if1 .left)) .0
 
-complete-requires : tie.Need-complete-requires
-complete-requires c κs = search needs
+end-command-requires : tie.Need-end-command-requires
+end-command-requires c κs = search needs
 
 tell-requires : tie.Need-tell-requires
-tell-requires c κs = c .before .before .before .before .before .before .before .before .before .before .before .before .before .is-usable .ensures .1 (not-false _ (c .before .before .before .before .before .before .before .before .before .before .before .before .if1 .left))
-
-fail-requires : tie.Need-fail-requires
-fail-requires c κs = search needs
-
-tell-requires-2 : tie.Need-tell-requires-2
-tell-requires-2 c κs = c .before .before .before .before .before .before .before .before .before .before .before .before .before .is-usable .ensures .1 (not-false _ (c .before .before .before .before .before .before .before .before .before .before .before .before .if1 .left))
+tell-requires c κs = c .before .before .before .before .before .before .before .before .before .before .before .before .is-usable .ensures .1 (not-false _ (c .before .before .before .before .before .before .before .before .before .before .before .if1 .left))
 
 same-length-2 : tie.Need-same-length-2
 same-length-2 c = search needs
@@ -44,29 +38,11 @@ same-length-5 c = search needs
 
 returns-2 : tie.Need-returns-2
 unfolding stepWords
-returns-2 c = let e = sym (c .before .before .before .before .before .before .before .before .before .before .before .before .before .before .before .before .before .before .is-usable .ensures .0) ∙ not-false _ (c .before .before .before .before .before .before .before .before .before .before .before .before .before .before .before .before .before .if1 .left) in
-    let m = c .before .before .before .before .before .before .before .before .before .before .before .before .before .before .before .mount-from .ensures in
-    let done = c .before .before .before .before .before .before .before .before .before .before .before .before .before .before .if2 .taken in
-    rw (e, ← m, done, c .before .before .before .before .before .before .before .before .before .complete .ensures) (c .before .before .before .before .tell .ensures _ _)
-
-same-length-6 : tie.Need-same-length-6
-same-length-6 c = search needs
-
-same-length-7 : tie.Need-same-length-7
-same-length-7 c = search needs
-
-same-length-8 : tie.Need-same-length-8
-same-length-8 c = search needs
-
-same-length-9 : tie.Need-same-length-9
-same-length-9 c = search needs
-
-returns-3 : tie.Need-returns-3
-unfolding stepWords
-returns-3 c = let e = sym (c .before .before .before .before .before .before .before .before .before .before .before .before .before .before .before .before .before .before .is-usable .ensures .0) ∙ not-false _ (c .before .before .before .before .before .before .before .before .before .before .before .before .before .before .before .before .before .if1 .left) in
-    let m = c .before .before .before .before .before .before .before .before .before .before .before .before .before .before .before .mount-from .ensures in
-    let done = c .before .before .before .before .before .before .before .before .before .before .before .before .before .before .if2 .left in
-    rw (e, ← m, done, c .before .before .before .before .before .before .before .before .before .fail .ensures) (c .before .before .before .before .tell2 .ensures _ _)
+returns-2 c = let e = sym (c .before .before .before .before .before .before .before .before .before .before .before .before .before .before .before .before .before .is-usable .ensures .0) ∙ not-false _ (c .before .before .before .before .before .before .before .before .before .before .before .before .before .before .before .before .if1 .left) in
+    let t = c .before .before .before .before .tell .ensures _ _ in
+    let o = c .before .before .before .before .before .before .before .before .before .end-command .ensures in
+    let m = c .before .before .before .before .before .before .before .before .before .before .before .before .before .before .mount-from .ensures in
+    rw (e, ← m, o) t
 
 pub end-command-spec : {M : Type 1} → statement M
 end-command-spec =
@@ -76,17 +52,10 @@ end-command-spec =
     same-length
     returns
     mount-from-requires
-    complete-requires
+    end-command-requires
     tell-requires
-    fail-requires
-    tell-requires-2
     same-length-2
     same-length-3
     same-length-4
     same-length-5
-    returns-2
-    same-length-6
-    same-length-7
-    same-length-8
-    same-length-9
-    returns-3)
+    returns-2)
