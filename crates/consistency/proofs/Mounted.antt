@@ -11,7 +11,7 @@ use Rattle.types.specs.declared.FileKind.the-variants.{Conventional, Sequential
 use Rattle.types.specs.Blocks.{blockSectors, mostFiles}
 use Rattle.types.specs.Kinds.{ofKind, filesOf}
 use Rattle.types.proofs.Blocks.{is-block}
-use Rattle.table.specs.Rows.{rowsLent, offlineRow}
+use Rattle.table.specs.Rows.{rowsLent}
 use Rattle.files.proofs.Few.{seqs-few, cnvs-few}
 use Rattle.report.specs.Report.{zonesOf}
 use Rattle.report.proofs.Laws.{GoodReport, report-told, framed, zones-length}
@@ -21,10 +21,8 @@ use Rattle.mount.proofs.Tables.{filled-row, fill-length}
 use Rattle.checks.proofs.Laws.{counts-in, row-sound}
 use Rattle.engine.specs.Engine.{State, mounted}
 use Rattle.consistency.specs.Possible.{IsFile, RowPossible, Possible}
+use Rattle.consistency.proofs.Bridge.{noRow}
 use Rattle.consistency.proofs.Rows.{AllSound, sound-nth, seq-rows-sound, cnv-rows-sound}
-
-abbrev noRow : Row
-noRow = offlineRow 0 0
 
 module _ (block : ℕ) (superblock options report cnv seq : List ℕ) (t : Accepts block superblock options report cnv seq) where
   abbrev plain : List Row

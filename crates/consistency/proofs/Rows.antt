@@ -21,6 +21,7 @@ use Rattle.zones.proofs.Laws.{record-told, zone-told}
 use Rattle.files.specs.Files.{fileRow, rowIf, seqRows, startsConventional, runsWith, runs, startOf, capacityOf, allHealthy, runRow, cnvRows}
 use Rattle.report.proofs.Laws.{AllGood}
 use Rattle.checks.specs.Facts.{SoundRow}
+use Rattle.disk.proofs.Whole.{whole-next}
 use Rattle.recovery.proofs.Laws.{WellSized, written-well}
 
 -- where a file lies: these sectors
@@ -75,10 +76,6 @@ record Told (b at : ℕ) (z : Zone) (zs : List Zone) : Type 0 where
   point : pointed z ≡ true → WellSized b (z .capacity) (writtenSize z)
   next : (at + z .length) % blockSectors b ≡ 0
   rest : AllGood (blockSectors b) (at + z .length) zs
-
-whole-next : {b : ℕ} → IsBlock b → (x y : ℕ) → x % blockSectors b ≡ 0 → y % blockSectors b ≡ 0 → (x + y) % blockSectors b ≡ 0
-whole-next small x y v w = omega arith
-whole-next large x y v w = omega arith
 
 differ : Sequential ≡ Conventional → ⊥
 differ e = let x : _≡_ {A = ℕ} 0 1 = cc in omega arith

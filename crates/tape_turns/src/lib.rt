@@ -4,9 +4,8 @@ ghost use mathlib.Core.Bool.{true};
 ghost use mathlib.Core.List.{List};
 ghost use Prim.Native.Nat.{ℕ, _+_, _≤_};
 ghost use lib.ListN.{length};
-ghost use Rattle.completion.specs.Completions.{completionBy};
 ghost use Rattle.engine.specs.Engine.{Input, step};
-ghost use Rattle.engine.specs.Facts.{stateOf, stepOf};
+ghost use Rattle.engine.specs.Facts.{stateOf};
 ghost use Rattle.tape_records.specs.Records.{endBytes, runPlace};
 ghost use Rattle.tape_records.specs.Facts.{Opened};
 ghost use Rattle.tape_turns.specs.Turns.{callTurn, endTurn, brokenTurn, mountTurn, turnAt, goesOn, mounting, openTurn};
@@ -18,7 +17,6 @@ use types::Call;
 use types::Mount;
 use types::MountAnswer;
 use types::MountOutcome;
-use types::Outcome;
 
 // What a record left: the place after its line, whether the tape goes on, the place of the next record, and the mount.
 pub struct Turned {
