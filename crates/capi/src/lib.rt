@@ -139,11 +139,7 @@ fn end_command(
         return IMPOSSIBLE;
     }
     let m = mount_words::mount_from(&w[..]);
-    tell(
-        w,
-        a,
-        engine::end_command(m, cnv, seq, done, bytes, given),
-    )
+    tell(w, a, engine::end_command(m, cnv, seq, done, bytes, given))
 }
 
 // The outstanding command was done well.

@@ -165,7 +165,7 @@ pub always-digested : AlwaysDigested
 unfolding AlwaysDigested engine.step
 always-digested h c e o given bytes t = by (c .kind) (c .number) (c .command) e (truthful-told (after h) c e o given bytes t)
   where
-    by : (k : FileKind) (n : ℕ) (d : Command) → after h .state .mount .outstanding ≡ Busy (holdOf k n d) → Told (after h) d o given bytes → Digested (after h) (holdOf k n d) o given bytes
+    by : (k : FileKind) (n : ℕ) (d : Command) → after h .state .mount .outstanding ≡ Busy (holdOf k n d) → Told (after h) d o given bytes → Digested (after h) d o given bytes
     by Sequential n d e told =
         let g = seq-completed (invariant h) n d o given bytes told e in
         record { number = ap answerNumber (g .answer) ∙ reply-number (performIn (after h) d o .succeeded) d (new (invariant h) Sequential n d e o given bytes); idle = g .idle }

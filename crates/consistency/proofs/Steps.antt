@@ -43,8 +43,9 @@ use Rattle.consistency.specs.Possible.{HeldPossible, Possible, StaysPoss
 use Rattle.consistency.proofs.Possible.{stays-possible}
 use Rattle.engine.proofs.Frame.{frame}
 use Rattle.disk.specs.Shows.{showsRecord}
-use Rattle.disk.proofs.Shows.{Recorded, record-told}
-use Rattle.consistency.specs.System.{System, holdsSeqFile, Event, call, mishap, doing, stray, placeOf, performIn, settledIn, doneBy, strayBy, step, run, truthfulBy, truthful, allTruthful}
+use Rattle.disk.specs.Facts.{ShowsRecord}
+use Rattle.disk.proofs.Shows.{record-told}
+use Rattle.consistency.specs.System.{System, holdsSeqFile, Event, call, mishap, doing, stray, placeOf, performIn, digested, settledIn, doneBy, strayBy, step, run, truthfulBy, truthful, allTruthful}
 use Rattle.disk.proofs.SoundZone.{SoundZone, sound-struck, reported-shows}
 use Rattle.consistency.proofs.Mishaps.{keeps-mishap}
 use Rattle.held.proofs.Issued.{Within, Issued, issuable-tells}
@@ -220,7 +221,7 @@ module _ {v : Volume} {ks : List FileKind} {w : System} (r : Invariant v ks w) (
 
 -- what a truthful doing tells of its bytes
 abbrev pub Told : System → Command → Choice → Bool → List ℕ → Type 0
-Told w c o given bytes = performIn w c o .succeeded ≡ false → Recorded given bytes (performIn w c o .zone)
+Told w c o given bytes = performIn w c o .succeeded ≡ false → ShowsRecord given bytes (performIn w c o .zone)
 
 module _ {v : Volume} {ks : List FileKind} {w : System} (r : Invariant v ks w) (n : ℕ) (c : Command) (o : Choice) where
   -- the zone of a seq file's command
@@ -245,7 +246,7 @@ module _ {v : Volume} {ks : List FileKind} {w : System} (r : Invariant v ks w) (
           Completed (w .state .mount) (w .state .cnv) (w .state .seq) Sequential n x (replied (performIn w c o .succeeded) c x) (effectOf (w .state .mount) (w .state .cnv) (w .state .seq) answer)
       seq-completed = completed r Sequential n c e o given bytes (λ f. told f .long) (λ f. report-fits (r .block) (owns e .agrees) c (issue r Sequential n c e) o (zoneAt given bytes 0) f (told f .shows))
 
-      invariant-seq : Invariant v ks (settledIn w c (performIn w c o) answer)
+      invariant-seq : Invariant v ks (settledIn w c (performIn w c o) (digested w c o given bytes .state))
       unfolding engine.step StaysPossible
       invariant-seq = invariant-settled r Sequential n c e o (effectOf (w .state .mount) (w .state .cnv) (w .state .seq) answer) (set (r .rows) n (new r Sequential n c e o given bytes)) (r .plain) (effect-fixes (w .state .mount) (w .state .cnv) (w .state .seq) answer)
           (listed-became (r .listed) (known r Sequential n c e) (seq-completed .here))
@@ -260,7 +261,7 @@ module _ {v : Volume} {ks : List FileKind} {w : System} (r : Invariant v ks w) (
           Completed (w .state .mount) (w .state .cnv) (w .state .seq) Conventional n x (replied (performIn w c o .succeeded) c x) (effectOf (w .state .mount) (w .state .cnv) (w .state .seq) answer)
       cnv-completed = completed r Conventional n c e o given bytes (λ f. told f .long) (λ f. inside-fits (stood e) (told f .shows))
 
-      invariant-cnv : Invariant v ks (settledIn w c (performIn w c o) answer)
+      invariant-cnv : Invariant v ks (settledIn w c (performIn w c o) (digested w c o given bytes .state))
       unfolding engine.step StaysPossible
       invariant-cnv = invariant-settled r Conventional n c e o (effectOf (w .state .mount) (w .state .cnv) (w .state .seq) answer) (r .rows) (set (r .plain) n (new r Conventional n c e o given bytes)) (effect-fixes (w .state .mount) (w .state .cnv) (w .state .seq) answer)
           (rw (cnv-completed .other Sequential (w .state .seq) kinds-differ) (r .listed))
@@ -288,7 +289,7 @@ invariant-doing : {v : Volume} {ks : List FileKind} {w : System} → Invariant v
 unfolding step
 invariant-doing {v} {ks} {w} r o given bytes t = by (w .state .mount .outstanding) refl
   where
-    busy : (k : FileKind) (n : ℕ) (c : Command) → w .state .mount .outstanding ≡ Busy (holdOf k n c) → Told w c o given bytes → Invariant v ks (settledIn w c (performIn w c o) (completionBy (performIn w c o .succeeded) given bytes))
+    busy : (k : FileKind) (n : ℕ) (c : Command) → w .state .mount .outstanding ≡ Busy (holdOf k n c) → Told w c o given bytes → Invariant v ks (settledIn w c (performIn w c o) (digested w c o given bytes .state))
     busy Sequential n c e told = invariant-seq r n c o given bytes told e
     busy Conventional n c e told = invariant-cnv r n c o given bytes told e
 

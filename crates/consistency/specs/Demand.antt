@@ -7,6 +7,7 @@ use Prim.Native.Nat.{ℕ, _<_}
 use lib.ListN.{length, getD}
 use Rattle.types.specs.declared.Row.{Row}
 use Rattle.types.specs.declared.Held.{Held}
+use Rattle.types.specs.declared.Command.{Command}
 use Rattle.types.specs.declared.Call.{Call}
 use Rattle.types.specs.declared.Outstanding.the-variants.{Idle, Busy}
 use Rattle.types.specs.declared.ErrorPolicy.{ErrorPolicy}
@@ -16,14 +17,13 @@ use Rattle.table.specs.declared.Slot.the-variants.{Good}
 use Rattle.table.specs.Rows.{rowAt}
 use Rattle.options.specs.Options.{optionsOf}
 use Rattle.mount.specs.Mount.{Mounting, mountOutcome, policyOf}
-use Rattle.completion.specs.Completions.{completionBy}
-use Rattle.engine.specs.Engine.{Step, Input}
+use Rattle.engine.specs.Engine.{Input}
 use Rattle.engine.specs.Engine as engine
 use Rattle.consistency.specs.Possible.{IsFile, impossible, noFile}
 use Rattle.disk.specs.Disk.{DiskZone, noZone, Choice, diskRecord, diskReport}
 use Rattle.disk.specs.Shows.{showsRecord, shows}
 use Rattle.consistency.specs.FileHistory.{FileHistory}
-use Rattle.consistency.specs.System.{System, Event, doing, run, truthful, allTruthful, mounted, zoneOf, historyOf, performIn}
+use Rattle.consistency.specs.System.{System, Event, doing, run, truthful, allTruthful, mounted, zoneOf, historyOf, performIn, digested}
 use Rattle.consistency.specs.Claim.{AsPromised}
 
 -- ---- a list for demand 3
@@ -116,20 +116,16 @@ AlwaysRecorded = (h : History) → Recordable (after h)
 
 -- ---- beside it: what is answered on the way
 
--- what is replied to the completion of a command that the disk did
-abbrev pub digested : System → Held → Choice → Bool → List ℕ → Step
-digested s h o given bytes = engine.step (s .state) (Input.completion (completionBy (performIn s (h .command) o .succeeded) given bytes))
-
--- it is answered 0 if the command was done and 7 if it failed, never 8, 9 or 10, and the command is no longer held
-pub record Digested (s : System) (h : Held) (o : Choice) (given : Bool) (bytes : List ℕ) : Type 0 where
-  pub number : answerNumber (digested s h o given bytes .reply) ≡ cond (performIn s (h .command) o .succeeded) 0 7
-  pub idle : digested s h o given bytes .state .mount .outstanding ≡ Idle
+-- the completion is answered 0 if the command was done and 7 if it failed, never 8, 9 or 10, and the command is no longer held
+pub record Digested (s : System) (c : Command) (o : Choice) (given : Bool) (bytes : List ℕ) : Type 0 where
+  pub number : answerNumber (digested s c o given bytes .reply) ≡ cond (performIn s c o .succeeded) 0 7
+  pub idle : digested s c o given bytes .state .mount .outstanding ≡ Idle
 
 -- whatever the disk does with an outstanding command, and truthfully reports of it
 unfoldable pub AlwaysDigested : Type 0
 AlwaysDigested =
     (h : History) (c : Held) → after h .state .mount .outstanding ≡ Busy c
-    → (o : Choice) (given : Bool) (bytes : List ℕ) → truthful (after h) (doing o given bytes) ≡ true → Digested (after h) c o given bytes
+    → (o : Choice) (given : Bool) (bytes : List ℕ) → truthful (after h) (doing o given bytes) ≡ true → Digested (after h) (c .command) o given bytes
 
 -- a call on the file of a kind's number and a number is never answered 10, and never 1 where the file exists
 pub record Answered (s : System) (kind n : ℕ) (x : Call) : Type 0 where

@@ -24,8 +24,8 @@ use Rattle.completion.specs.Completions.{Completion}
 use Rattle.engine.specs.Engine.{Input}
 use Rattle.engine.specs.Engine as engine
 use Rattle.disk.specs.Disk.{DiskZone, Harm, none, toReadOnly, toOffline, Mishap, Choice, reported}
-use Rattle.consistency.specs.System.{System, Event, call, mishap, doing, stray, step, run, allTruthful, mounted, zoneOf, historyOf}
-use Rattle.consistency.specs.Demand.{Start, digested}
+use Rattle.consistency.specs.System.{System, Event, call, mishap, doing, stray, digested, step, run, allTruthful, mounted, zoneOf, historyOf}
+use Rattle.consistency.specs.Demand.{Start}
 use Rattle.consistency.specs.Cases.{Setting, paper, aggregated, block512, zone4ReadOnly, blockIn, aggregates, zone, report, superblock, lent, optionText, mountUnder, sizeIn, accessIn}
 
 -- ---- the disk of each setting
@@ -105,7 +105,7 @@ zone3 kind condition pointer = zone 3 kind condition 393216 pointer
 -- the numbers that are answered on the way
 abbrev pub doingReply : Outstanding → System → Choice → Bool → List ℕ → List ℕ
 doingReply Idle s o given bytes = []
-doingReply (Busy h) s o given bytes = answerNumber (digested s h o given bytes .reply) ∷ []
+doingReply (Busy h) s o given bytes = answerNumber (digested s (h .command) o given bytes .reply) ∷ []
 
 abbrev pub strayReply : Outstanding → System → Completion → List ℕ
 strayReply Idle s x = answerNumber (engine.step (s .state) (Input.completion x) .reply) ∷ []

@@ -12,7 +12,7 @@ use Rattle.types.specs.declared.Outstanding.the-variants.{Idle, Busy}
 use Rattle.types.specs.Predicates.{isConventional}
 use Rattle.completion.specs.Completions.{Completion, completionBy}
 use Rattle.mount.specs.Mount.{Mounting}
-use Rattle.engine.specs.Engine.{State, Input}
+use Rattle.engine.specs.Engine.{State, Input, Step}
 use Rattle.engine.specs.Engine as engine
 use Rattle.disk.specs.Disk.{DiskZone, noZone, zoneHolding, Mishap, Choice, Performed, struck, perform}
 use Rattle.disk.specs.Shows.{showsRecord}
@@ -67,12 +67,16 @@ performIn s c o =
     let i = placeOf s c in
     perform (s .state .mount .volume .block) (getD (s .histories) i noHistory .quiet) (getD (s .disk) i noZone) c o
 
--- and what comes of it with its completion
-abbrev pub settledIn : System → Command → Performed → Completion → System
-settledIn s c d x =
+-- what its completion does, with these bytes if it failed
+abbrev pub digested : System → Command → Choice → Bool → List ℕ → Step
+digested s c o given bytes = engine.step (s .state) (Input.completion (completionBy (performIn s c o .succeeded) given bytes))
+
+-- and what comes of both
+abbrev pub settledIn : System → Command → Performed → State → System
+settledIn s c d state =
     let i = placeOf s c in
     record {
-      state = engine.step (s .state) (Input.completion x) .state;
+      state = state;
       disk = set (s .disk) i (d .zone);
       histories = set (s .histories) i (afterCommand (d .succeeded) (getD (s .histories) i noHistory) c (d .zone));
     }
@@ -81,8 +85,7 @@ settledIn s c d x =
 abbrev pub doneBy : Outstanding → System → Choice → Bool → List ℕ → System
 doneBy Idle s o given bytes = s
 doneBy (Busy h) s o given bytes =
-    let d = performIn s (h .command) o in
-    settledIn s (h .command) d (completionBy (d .succeeded) given bytes)
+    settledIn s (h .command) (performIn s (h .command) o) (digested s (h .command) o given bytes .state)
 
 -- a completion with nothing outstanding; while a command is outstanding, the disk answers that one
 abbrev pub strayBy : Outstanding → System → Completion → System

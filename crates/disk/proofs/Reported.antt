@@ -17,9 +17,8 @@ use Rattle.zones.specs.Zone.{zoneAt}
 use Rattle.zones.proofs.Encoded.{ReadBack, read-back, more-bytes, Bytes, record-bytes, byte-at}
 use Rattle.report.proofs.Encoded.{AllReadBack, ByteKinds, encoded-header, encoded-zones, encoded-bytes}
 use Rattle.disk.specs.Disk.{DiskZone, noZone, typeByte, healthyByte, conditionByte, reported, diskRecord, diskReport}
-use Rattle.disk.specs.Facts.{ShowsZone, ShowsZones, Shows}
+use Rattle.disk.specs.Facts.{ShowsZone, ShowsRecord, ShowsZones, Shows}
 use Rattle.disk.specs.Facts as shows
-use Rattle.disk.proofs.Shows.{Recorded}
 use Rattle.disk.proofs.SoundZone.{SoundZone, kind-shown, reported-shows}
 
 -- THE RECORD of a zone that is good input shows it, read back: its numbers fit their bytes, but for a pointer that means nothing.
@@ -40,7 +39,7 @@ back-shows {z = z} {r = r} s k =
       condition = rw (k .condition) (w .condition);
     }
 
-pub record-shown : {b : ℕ} {z : DiskZone} → SoundZone b z → Recorded true (diskRecord z) z
+pub record-shown : {b : ℕ} {z : DiskZone} → SoundZone b z → ShowsRecord true (diskRecord z) z
 record-shown {z = z} s =
     let whole = append-nil (diskRecord z) in
     record {

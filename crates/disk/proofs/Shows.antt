@@ -10,11 +10,11 @@ use borrow.Author.Tests.{eqb-true, eq-eqb}
 use Rattle.types.specs.Predicates.{isHealthy}
 use Rattle.types.proofs.Tests.{both, and-left, and-right, means-in, means-out}
 use Rattle.zones.specs.declared.Zone.{Zone}
-use Rattle.zones.specs.Zone.{zoneBytes, zoneAt}
+use Rattle.zones.specs.Zone.{zoneBytes}
 use Rattle.report.specs.Report.{goodHeader, zonesOf}
 use Rattle.disk.specs.Disk.{DiskZone, hasPointer}
 use Rattle.disk.specs.Shows.{showsKind, showsCondition, showsZone, showsRecord, showsZones, shows}
-use Rattle.disk.specs.Facts.{ShowsZone, ShowsZones, none, next, Shows}
+use Rattle.disk.specs.Facts.{ShowsZone, ShowsRecord, ShowsZones, none, next, Shows}
 use Rattle.disk.proofs.Conditions.{healthy-is, sequential-is}
 
 module _ {r : Zone} {z : DiskZone} where
@@ -63,15 +63,10 @@ pub report-shows : {report : List ℕ} {disk : List DiskZone} → Shows report d
 unfolding shows
 report-shows w = both (w .header) (zones-show (w .zones))
 
--- a record of 64 bytes
-pub record Recorded (given : Bool) (bytes : List ℕ) (z : DiskZone) : Type 0 where
-  pub long : length bytes ≡ zoneBytes
-  pub shows : ShowsZone (zoneAt given bytes 0) z
-
-pub record-told : (given : Bool) (bytes : List ℕ) (z : DiskZone) → showsRecord given bytes z ≡ true → Recorded given bytes z
+pub record-told : (given : Bool) (bytes : List ℕ) (z : DiskZone) → showsRecord given bytes z ≡ true → ShowsRecord given bytes z
 unfolding showsRecord
 record-told given bytes z e = record { long = eqb-true _ _ (and-left _ _ e); shows = zone-told (and-right (eqb (length bytes) zoneBytes) _ e) }
 
-pub record-shows : {given : Bool} {bytes : List ℕ} {z : DiskZone} → Recorded given bytes z → showsRecord given bytes z ≡ true
+pub record-shows : {given : Bool} {bytes : List ℕ} {z : DiskZone} → ShowsRecord given bytes z → showsRecord given bytes z ≡ true
 unfolding showsRecord
 record-shows w = both (eq-eqb _ _ (w .long)) (zone-shows (w .shows))
