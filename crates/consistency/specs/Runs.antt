@@ -174,6 +174,10 @@ module _ (under : Setting → ErrorPolicy → Mounting) where
       ∷ on0 ZoneRo (read ∷ fails 0 (falls 0) (zone3 2 2 1572872) ∷ []) (0 ∷ 7 ∷ []) (4096 ∷ 2 ∷ 4096 ∷ 2 ∷ 1 ∷ 4096 ∷ 0 ∷ [])
       -- a completion with nothing outstanding
       ∷ on0 Repair (stray Completion.good ∷ []) (8 ∷ []) (4096 ∷ 2 ∷ 4096 ∷ 2 ∷ 1 ∷ 4096 ∷ 0 ∷ [])
+      -- and one while a command is outstanding is no entry: the disk answers that command
+      ∷ on0 Repair (write ∷ stray Completion.good ∷ []) (0 ∷ []) (4096 ∷ 2 ∷ 4096 ∷ 2 ∷ 1 ∷ 4096 ∷ 0 ∷ [])
+      -- a record that says a block landed which didn't is not truthful
+      ∷ is (seenOf (seqSeen 0) (startIn paper Repair) (write ∷ fails 0 (falls 0) (zone3 2 2 1572880) ∷ [])) (0 ∷ 0 ∷ 7 ∷ 8192 ∷ 2 ∷ 4096 ∷ 2 ∷ 1 ∷ 4096 ∷ 0 ∷ [])
       -- a kind that there isn't
       ∷ on0 Repair (call 2 0 Call.Flush ∷ []) (1 ∷ []) (4096 ∷ 2 ∷ 4096 ∷ 2 ∷ 1 ∷ 4096 ∷ 0 ∷ [])
       ∷ []

@@ -56,10 +56,15 @@ harmed c harm = zoneSeen (struck 4096 (seqZone 808 c) 808 (record { blocks = 0; 
 abbrev pub reportSeen : DiskZone → List ℕ
 reportSeen z = reported z .kind ∷ reported z .condition ∷ []
 
--- whether this record shows the zone: type, condition and pointer
+-- whether a record shows the zone: its type, condition and pointer
 abbrev pub shown : ℕ → ℕ → ℕ → DiskZone → List ℕ
 shown kind condition pointer z =
     flagCode (showsZone (record { start = 800; length = 800; pointer = pointer; kind = kind; condition = condition; capacity = 640 }) z) ∷ []
+
+-- its start, length and capacity, of a zone that is healthy with its pointer at 808
+abbrev pub shownAt : ℕ → ℕ → ℕ → List ℕ
+shownAt start length capacity =
+    flagCode (showsZone (record { start = start; length = length; pointer = 808; kind = 2; condition = 2; capacity = capacity }) (seqZone 808 Healthy)) ∷ []
 
 -- ---- the tables
 
@@ -81,15 +86,27 @@ commandCases =
     ∷ is (failedAfter 1 noMishap (seqZone 808 Healthy) (commandAt Read 800 4096)) (0 ∷ 808 ∷ 0 ∷ [])
     -- "Mishap (alone or with a failure)"
     ∷ is (failedAfter 2 (record { blocks = 1; harm = toReadOnly }) (seqZone 808 Healthy) (commandAt Write 808 8192)) (0 ∷ 816 ∷ 1 ∷ [])
+    -- .. and only with one
+    ∷ is (doneSeen (perform 4096 true (seqZone 808 Healthy) (commandAt Write 808 8192) (record { fails = false; lands = 0; mishap = record { blocks = 1; harm = toReadOnly } }))) (1 ∷ 824 ∷ 0 ∷ [])
+    ∷ []
+
+-- whether a zone can do a command
+unfoldable pub allowedCases : List Case
+allowedCases =
     -- "Write, reset and finish fail on an unhealthy zone, a read on an offline one."
-    ∷ is (tried true (seqZone 808 ReadOnly) (commandAt Write 808 8192)) (0 ∷ 808 ∷ 1 ∷ [])
+    is (tried true (seqZone 808 ReadOnly) (commandAt Write 808 8192)) (0 ∷ 808 ∷ 1 ∷ [])
     ∷ is (tried true (seqZone 808 ReadOnly) (commandAt Reset 800 0)) (0 ∷ 808 ∷ 1 ∷ [])
     ∷ is (tried true (seqZone 808 ReadOnly) (commandAt Finish 800 0)) (0 ∷ 808 ∷ 1 ∷ [])
+    ∷ is (tried true (seqZone 808 Offline) (commandAt Write 808 8192)) (0 ∷ 808 ∷ 2 ∷ [])
+    ∷ is (tried true (seqZone 808 Offline) (commandAt Reset 800 0)) (0 ∷ 808 ∷ 2 ∷ [])
+    ∷ is (tried true (seqZone 808 Offline) (commandAt Finish 800 0)) (0 ∷ 808 ∷ 2 ∷ [])
     ∷ is (tried true (seqZone 808 ReadOnly) (commandAt Read 800 4096)) (1 ∷ 808 ∷ 1 ∷ [])
     ∷ is (tried true (seqZone 808 Offline) (commandAt Read 800 4096)) (0 ∷ 808 ∷ 2 ∷ [])
     -- "Flush concerns its own zone and fails if the file isn't quiet."
     ∷ is (tried true (seqZone 808 Healthy) (commandAt Flush 800 0)) (1 ∷ 808 ∷ 0 ∷ [])
     ∷ is (tried false (seqZone 808 Healthy) (commandAt Flush 800 0)) (0 ∷ 808 ∷ 0 ∷ [])
+    -- (of a conventional file it may succeed in any case)
+    ∷ is (tried false (zoneWith Conventional 0 Healthy) (commandAt Flush 800 0)) (1 ∷ 0 ∷ 0 ∷ [])
     ∷ []
 
 unfoldable pub mishapCases : List Case
@@ -125,7 +142,16 @@ reportCases =
     ∷ is (shown 3 4 808 (seqZone 808 Healthy)) (1 ∷ [])
     ∷ is (shown 3 14 1440 (seqZone 1440 Healthy)) (1 ∷ [])
     ∷ is (shown 2 13 5 (seqZone 808 ReadOnly)) (1 ∷ [])
+    ∷ is (shown 1 0 5 (zoneWith Conventional 0 Healthy)) (1 ∷ [])
+    ∷ is (shown 2 0 0 (zoneWith Conventional 0 Healthy)) (0 ∷ [])
+    ∷ is (shown 1 2 0 (zoneWith Conventional 0 Healthy)) (0 ∷ [])
     ∷ is (shown 1 0 808 (seqZone 808 Healthy)) (0 ∷ [])
+    ∷ is (shown 2 0 808 (seqZone 808 Healthy)) (0 ∷ [])
+    ∷ is (shown 2 5 808 (seqZone 808 Healthy)) (0 ∷ [])
+    ∷ is (shownAt 800 800 640) (1 ∷ [])
+    ∷ is (shownAt 792 800 640) (0 ∷ [])
+    ∷ is (shownAt 800 808 640) (0 ∷ [])
+    ∷ is (shownAt 800 800 632) (0 ∷ [])
     ∷ is (shown 2 2 816 (seqZone 808 Healthy)) (0 ∷ [])
     ∷ is (shown 2 14 808 (seqZone 808 Healthy)) (0 ∷ [])
     ∷ is (shown 2 13 808 (seqZone 808 Healthy)) (0 ∷ [])
@@ -139,5 +165,6 @@ reportCases =
 -- THE CLAIM: each case gives what is stated.
 pub record DiskCases : Type 0 where
   pub commands : AsStated commandCases
+  pub allowed : AsStated allowedCases
   pub mishaps : AsStated mishapCases
   pub reports : AsStated reportCases
