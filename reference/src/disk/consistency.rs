@@ -3,11 +3,16 @@
 
 use std::collections::VecDeque;
 
+use super::answers::{
+    call_fault, complete, completion_fault, FAILED, GOOD, IMPOSSIBLE, NOTHING_OUTSTANDING, RECORD_MISMATCH,
+};
 use super::model::{Choice, Disk, Mishap, Outcome};
+use super::truth::{is_true, shown_in, Shown, FREEDOMS};
 use crate::player::calls::{Call, Reply};
 use crate::player::mount::Input;
 use crate::player::play::mount_volume;
 use crate::player::superblock;
+use crate::player::tape::CallRecord;
 use crate::player::types::{Access, Condition, FileKind, Held, Operation, Policy, Refusal, Row, Volume};
 use crate::player::zone::{self, Zone, HEADER, RECORD};
 
@@ -23,15 +28,30 @@ pub struct Compared {
     pub states: u64,
     pub rows: u64,
     pub exceptions: [u64; EXCEPTIONS],
+    /// Commands that failed, each with a record.
+    pub failures: u64,
+    /// Those records, by what their bytes had other than the disk's own; and the same of zones in fresh reports.
+    pub records: [u64; FREEDOMS],
+    pub reports: [u64; FREEDOMS],
+    /// Completions on copies that no run can have.
+    pub impossible: u64,
 }
 
 impl Compared {
     pub fn add(&mut self, other: &Compared) {
         self.states += other.states;
         self.rows += other.rows;
-        for (sum, count) in self.exceptions.iter_mut().zip(other.exceptions) {
-            *sum += count;
-        }
+        self.failures += other.failures;
+        self.impossible += other.impossible;
+        add_each(&mut self.exceptions, &other.exceptions);
+        add_each(&mut self.records, &other.records);
+        add_each(&mut self.reports, &other.reports);
+    }
+}
+
+fn add_each(sums: &mut [u64], counts: &[u64]) {
+    for (sum, count) in sums.iter_mut().zip(counts) {
+        *sum += count;
     }
 }
 
@@ -51,13 +71,31 @@ struct Story {
 #[derive(Clone, Copy, Debug)]
 pub enum Entry {
     Call(Call, Result<Reply, Refusal>),
-    Mishap { zone: usize, mishap: Mishap, happened: bool },
-    Doing { held: Held, choice: Choice, outcome: Outcome },
+    /// A call with a kind byte that no file has.
+    UnknownKind(CallRecord, Result<Reply, Refusal>),
+    Mishap {
+        zone: usize,
+        mishap: Mishap,
+        happened: bool,
+    },
+    Doing {
+        held: Held,
+        choice: Choice,
+        outcome: Outcome,
+        /// What the record of a failure says.
+        shown: Option<Zone>,
+    },
     IdleCompletion,
+    /// A record that isn't the disk's, refused. The paper's lists don't have it; it changes nothing.
+    UntrueCompletion,
 }
+
+/// Makes a report that shows the zones as they are.
+type ShowReport = Box<dyn FnMut(&[Zone]) -> Vec<u8>>;
 
 pub struct Run {
     input: Input,
+    show_report: ShowReport,
     pub disk: Disk,
     pub volume: Volume,
     /// The file of each zone; zone 0 has none.
@@ -88,6 +126,7 @@ impl Run {
         };
         let mut run = Run {
             input: input.clone(),
+            show_report: Box::new(first_report_changed(input.report.clone())),
             cnv: vec![story(None); volume.mount.cnv_files],
             seq: seq_zone.iter().map(|&zone| story(Some(&zones[zone]))).collect(),
             disk: Disk::new(zones, volume.mount.block),
@@ -102,14 +141,30 @@ impl Run {
         Ok(run)
     }
 
+    /// From now on fresh mounts get the reports that `show_report` makes, each of them a true one.
+    pub fn showing(self, show_report: impl FnMut(&[Zone]) -> Vec<u8> + 'static) -> Run {
+        Run { show_report: Box::new(show_report), ..self }
+    }
+
     pub fn call(&mut self, call: &Call) -> Result<(), String> {
         let before = self.volume.clone();
-        let result = self.volume.call(call);
-        self.note(Entry::Call(*call, result));
-        if result.is_err() && self.volume != before {
-            return Err(self.complaint("a refused call moved something"));
-        }
+        let answer = self.volume.call(call);
+        self.note(Entry::Call(*call, answer));
+        let exists = self.owner.contains(&Some((call.kind, call.number)));
+        self.complain_of(call_fault(exists, &answer, self.volume != before))?;
         self.check_frame(&before, call.kind, call.number)?;
+        self.end_entry()
+    }
+
+    /// A call as a tape has it: also one with a kind byte that no file has.
+    pub fn recorded_call(&mut self, record: &CallRecord) -> Result<(), String> {
+        if let Some(call) = record.call() {
+            return self.call(&call);
+        }
+        let before = self.volume.clone();
+        let answer = self.volume.recorded_call(record);
+        self.note(Entry::UnknownKind(*record, answer));
+        self.complain_of(call_fault(false, &answer, self.volume != before))?;
         self.end_entry()
     }
 
@@ -123,50 +178,94 @@ impl Run {
     }
 
     /// A completion while nothing is outstanding: refused, and nothing moves.
-    pub fn idle_completion(&mut self, failed: Option<&[u8]>) -> Result<(), String> {
+    pub fn idle_completion(&mut self, failed: Option<&Shown>) -> Result<(), String> {
         let before = self.volume.clone();
-        let answer = match failed {
-            None => self.volume.succeed(),
-            Some(record) => self.volume.fail(record, true),
-        };
+        let answer = complete(&mut self.volume, failed);
         self.note(Entry::IdleCompletion);
-        if answer != Err(Refusal::NothingOutstanding) {
-            return Err(self.complaint(&format!("an idle completion is answered {answer:?}")));
-        }
-        if self.volume != before {
-            return Err(self.complaint("an idle completion moved something"));
-        }
+        self.check_completion("an idle completion", NOTHING_OUTSTANDING, answer, &before, &self.volume)?;
         self.end_entry()
     }
 
-    /// The disk does the outstanding command and its completion is digested; `encode` makes the bytes of the
-    /// zone record. Nothing happens, and None is given, while nothing is outstanding.
+    /// A failure whose record isn't the disk's: refused, and nothing moves. One that the player takes would be a lie
+    /// of the disk, which has no place in a run: then it didn't come, and false is given.
+    pub fn untrue_completion(&mut self, shown: &Shown) -> Result<bool, String> {
+        let mut trial = self.volume.clone();
+        let answer = complete(&mut trial, Some(shown));
+        if answer == FAILED {
+            return Ok(false);
+        }
+        self.note(Entry::UntrueCompletion);
+        self.check_completion("an untrue completion", RECORD_MISMATCH, answer, &self.volume, &trial)?;
+        Ok(true)
+    }
+
+    /// A completion on a spoilt copy of the volume, with a command outstanding: refused, and nothing moves.
+    pub fn impossible_completion(&mut self, spoilt: &Volume, failed: Option<&Shown>) -> Result<(), String> {
+        let mut trial = spoilt.clone();
+        let answer = complete(&mut trial, failed);
+        self.compared.impossible += 1;
+        self.check_completion("a completion on a copy that no run has", IMPOSSIBLE, answer, spoilt, &trial)
+    }
+
+    /// The disk does the outstanding command and its completion is digested; `show` makes the record of the zone.
+    /// Nothing happens, and None is given, while nothing is outstanding.
     pub fn doing(
         &mut self,
         choice: &Choice,
-        mut encode: impl FnMut(&Zone) -> [u8; RECORD],
-    ) -> Result<Option<Option<[u8; RECORD]>>, String> {
+        mut show: impl FnMut(&Zone) -> Shown,
+    ) -> Result<Option<Option<Shown>>, String> {
         let Some(held) = self.volume.mount.held else { return Ok(None) };
         let quiet = self.story(held.kind, held.number).quiet;
         let outcome = self.disk.perform(&held.command, quiet, choice);
         if outcome.mishap {
             self.disturb(outcome.zone);
         }
-        self.note(Entry::Doing { held, choice: *choice, outcome });
-        let record = outcome.failed.then(|| encode(&self.disk.zones[outcome.zone]));
-        let before = self.volume.clone();
-        let answer = match &record {
-            None => self.volume.succeed(),
-            Some(record) => self.volume.fail(record, true),
-        };
-        if let Err(refusal) = answer {
-            let number = refusal.number();
-            return Err(self.complaint(&format!("a truthful completion is answered {number}")));
+        let shown = outcome.failed.then(|| show(&self.disk.zones[outcome.zone]));
+        self.note(Entry::Doing { held, choice: *choice, outcome, shown: shown.map(|shown| shown.zone()) });
+        if let Some(shown) = &shown {
+            let freedoms = self.check_shown(shown, outcome.zone)?;
+            add_each(&mut self.compared.records, &freedoms);
+            self.compared.failures += 1;
         }
-        self.check_frame(&before, held.kind, held.number)?;
+        self.digest(&held, shown.as_ref())?;
         self.note_completion(&held, &outcome);
         self.end_entry()?;
-        Ok(Some(record))
+        Ok(Some(shown))
+    }
+
+    /// Digests a truthful completion.
+    fn digest(&mut self, held: &Held, failed: Option<&Shown>) -> Result<(), String> {
+        let before = self.volume.clone();
+        let answer = complete(&mut self.volume, failed);
+        let must_be = if failed.is_some() { FAILED } else { GOOD };
+        self.check_completion("a truthful completion", must_be, answer, &before, &self.volume)?;
+        self.check_frame(&before, held.kind, held.number)
+    }
+
+    /// What isn't true of the zone is a fault; gives in what it differs from the disk's own bytes, as counts.
+    fn check_shown(&self, shown: &Shown, number: usize) -> Result<[u64; FREEDOMS], String> {
+        let zone = &self.disk.zones[number];
+        let true_of_it = is_true(&shown.zone(), zone, self.volume.mount.block);
+        self.complain_of((!true_of_it).then(|| {
+            format!("zone {number} is {zone:?}, and is shown as {:?}, which isn't true", shown.zone())
+        }))?;
+        Ok(shown.freedoms(zone).map(u64::from))
+    }
+
+    fn check_completion(
+        &self,
+        what: &str,
+        must_be: u32,
+        answer: u32,
+        before: &Volume,
+        after: &Volume,
+    ) -> Result<(), String> {
+        let fault = completion_fault(must_be, answer, before, after);
+        self.complain_of(fault.map(|fault| format!("{what} {fault}")))
+    }
+
+    fn complain_of(&self, fault: Option<String>) -> Result<(), String> {
+        fault.map_or(Ok(()), |fault| Err(self.complaint(&fault)))
     }
 
     fn note(&mut self, entry: Entry) {
@@ -229,10 +328,7 @@ impl Run {
             return Ok(());
         }
         self.compared.states += 1;
-        let fresh_input = Input { report: self.report_now(), ..self.input.clone() };
-        let fresh = mount_volume(&fresh_input).map_err(|refusal| {
-            self.complaint(&format!("the fresh mount is refused with {}", refusal.number()))
-        })?;
+        let fresh = self.fresh_mount()?;
         for number in 0..self.seq.len() {
             if self.seq[number].quiet {
                 self.compare_row(number, &fresh.seq[number])?;
@@ -241,14 +337,28 @@ impl Run {
         Ok(())
     }
 
-    /// The first report with each zone's pointer and condition as they are now.
-    fn report_now(&self) -> Vec<u8> {
-        let mut report = self.input.report.clone();
-        for (record, zone) in report[HEADER..].chunks_mut(RECORD).zip(&self.disk.zones) {
-            record[16..24].copy_from_slice(&zone.pointer.to_le_bytes());
-            record[25] = zone.condition;
+    /// A mount with the same arguments but a report that shows the zones as they are now.
+    fn fresh_mount(&mut self) -> Result<Volume, String> {
+        let report = (self.show_report)(&self.disk.zones);
+        let input = Input { report, ..self.input.clone() };
+        let fresh = mount_volume(&input).map_err(|refusal| {
+            self.complaint(&format!("the fresh mount is refused with {}", refusal.number()))
+        })?;
+        self.check_report(&input.report)?;
+        Ok(fresh)
+    }
+
+    /// The report shows all zones, and of each what is true.
+    fn check_report(&mut self, report: &[u8]) -> Result<(), String> {
+        let shown = shown_in(report);
+        if shown.len() != self.disk.zones.len() {
+            return Err(self.complaint("the fresh mount's report has another number of zones"));
         }
-        report
+        for (number, shown) in shown.iter().enumerate() {
+            let freedoms = self.check_shown(shown, number)?;
+            add_each(&mut self.compared.reports, &freedoms);
+        }
+        Ok(())
     }
 
     fn compare_row(&mut self, number: usize, fresh: &Row) -> Result<(), String> {
@@ -306,6 +416,18 @@ fn size_if_healthy(zone: &Zone) -> u64 {
         zone.written()
     } else {
         0
+    }
+}
+
+/// Makes the first report with each zone's pointer and condition as they are now.
+fn first_report_changed(first: Vec<u8>) -> impl FnMut(&[Zone]) -> Vec<u8> {
+    move |zones| {
+        let mut report = first.clone();
+        for (record, zone) in report[HEADER..].chunks_mut(RECORD).zip(zones) {
+            record[16..24].copy_from_slice(&zone.pointer.to_le_bytes());
+            record[25] = zone.condition;
+        }
+        report
     }
 }
 

@@ -1,18 +1,19 @@
-//! Zone records that come with a failed completion: true, plausible, damaged, or noise.
+//! Zone records that come with a failed completion: the disk's own, plausible, damaged, or noise.
 
 use super::random::Random;
 use super::refused::spoil_zone;
 use super::shape::encode_zone;
-use crate::player::types::{Condition, FileKind, Held, Row, Volume, DISK_LIMIT, SECTOR};
+use crate::disk::truth::{pointer_counts, Shown};
+use crate::player::types::{FileKind, Held, Row, Volume, DISK_LIMIT, SECTOR};
 use crate::player::zone::{self, Zone, RECORD};
 
-/// The zone as it is. Where a pointer means nothing the disk may put anything there.
-pub fn truthful_record(random: &mut Random, zone: &Zone) -> [u8; RECORD] {
+/// The zone with the disk's own type and condition. Where a pointer means nothing the disk may put anything there.
+pub fn own_record(random: &mut Random, zone: &Zone) -> Shown {
     let mut shown = *zone;
-    if zone.is_conventional() || zone.health() != Condition::Healthy {
+    if !pointer_counts(zone) {
         shown.pointer = random.pick(&[zone.pointer, zone.start, 0, u64::MAX, zone.start + 1]);
     }
-    encode_zone(random, &shown)
+    Shown::with_capacity_given(encode_zone(random, &shown))
 }
 
 /// A record that fits the file of the held command, mostly.

@@ -4,12 +4,14 @@
 mod broken;
 mod calls;
 mod failures;
+mod impossible;
 mod long;
 pub mod random;
 pub mod records;
 mod refused;
 mod runs;
 mod shape;
+pub mod truthful;
 
 pub use long::{long, MAX_PAD};
 
@@ -27,7 +29,7 @@ pub fn generate(seed: u64, index: u64) -> Generated {
     let mut random = Random::new(seed, index);
     let unchecked = |bytes| Generated { bytes, check: Ok(Compared::default()) };
     match random.weighted(&[42, 18, 28, 12]) {
-        0 => runs::truthful(&mut random),
+        0 => runs::checked(&mut random),
         1 => unchecked(runs::wild(&mut random)),
         2 => unchecked(refused::tape(&mut random)),
         _ => unchecked(broken::tape(&mut random)),

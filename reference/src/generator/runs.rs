@@ -2,20 +2,23 @@
 
 use super::broken::spoil_end;
 use super::calls::call;
-use super::failures::{damaged_record, noise_record, plausible_record, truthful_record};
+use super::failures::{damaged_record, noise_record, own_record, plausible_record};
+use super::impossible::spoilt;
 use super::random::Random;
 use super::records::{encode, head};
 use super::shape::{self, Shape};
-use super::Generated;
+use super::{truthful, Generated};
 use crate::disk::consistency::Run;
 use crate::disk::model::{Choice, Mishap};
+use crate::disk::truth::Shown;
 use crate::player::mount::Input;
 use crate::player::play::mount_volume;
 use crate::player::tape::Record;
 use crate::player::types::{Command, FileKind, Held, Operation, Volume};
+use crate::player::zone::Zone;
 
 /// A run in which the disk tells the truth; the consistency check watches it.
-pub fn truthful(random: &mut Random) -> Generated {
+pub fn checked(random: &mut Random) -> Generated {
     let shape = shape::shape(random);
     let input = shape::input(random, &shape);
     let mut tape = head(&input);
@@ -39,18 +42,21 @@ pub struct Course {
     pub busy: u64,
     /// Whether a zone may become read-only or offline.
     pub worsening: bool,
+    /// Makes the record of a failed command. The long run has the disk's own, so that its tape stays what it is.
+    pub show: fn(&mut Random, &Zone) -> Shown,
 }
 
 impl Course {
     pub fn any(random: &mut Random) -> Course {
         let (failures, mishaps) = (random.pick(&FAILURES), random.pick(&MISHAPS));
-        Course { failures, mishaps, busy: 0, worsening: true }
+        Course { failures, mishaps, busy: 0, worsening: true, show: own_record }
     }
 }
 
 fn drive(random: &mut Random, shape: &Shape, input: &Input, tape: &mut Vec<u8>) -> Result<Run, String> {
-    let mut run = Run::begin(input)?;
-    let course = Course::any(random);
+    let mut reports = Random::with_state(random.word());
+    let mut run = Run::begin(input)?.showing(move |zones| truthful::report(&mut reports, zones));
+    let course = Course { show: truthful::record, ..Course::any(random) };
     let steps = match shape.zones.len() {
         // No file, so nothing can happen.
         1 => 8,
@@ -60,6 +66,9 @@ fn drive(random: &mut Random, shape: &Shape, input: &Input, tape: &mut Vec<u8>) 
     };
     for _ in 0..steps {
         step(random, &mut run, &course, tape)?;
+        if random.percent(10) {
+            impossible_completion(random, &mut run)?;
+        }
     }
     Ok(run)
 }
@@ -76,10 +85,7 @@ pub fn step(random: &mut Random, run: &mut Run, course: &Course, tape: &mut Vec<
     } else {
         let record = call(random, &run.volume, course.busy);
         encode(&Record::Call(record), tape);
-        // A kind that no file has is no call of a run; it changes nothing.
-        if let Some(call) = record.call() {
-            run.call(&call)?;
-        }
+        run.recorded_call(&record)?;
         return Ok(true);
     }
     Ok(false)
@@ -120,10 +126,10 @@ pub fn doing(random: &mut Random, run: &mut Run, course: &Course, tape: &mut Vec
     };
     let mishap = random.percent(30).then(|| mishap(random, course));
     let choice = Choice { fail: random.percent(course.failures), landed_blocks, mishap };
-    let completion = run.doing(&choice, |zone| truthful_record(random, zone))?;
+    let completion = run.doing(&choice, |zone| (course.show)(random, zone))?;
     match completion {
         Some(None) => encode(&Record::Good, tape),
-        Some(Some(record)) => encode(&Record::Failed(&record), tape),
+        Some(Some(shown)) => encode(&Record::Failed(&shown.on_tape()), tape),
         None => {}
     }
     Ok(())
@@ -132,21 +138,26 @@ pub fn doing(random: &mut Random, run: &mut Run, course: &Course, tape: &mut Vec
 /// A completion out of turn: any while nothing is outstanding, else one that must be refused with 9.
 fn stray_completion(random: &mut Random, run: &mut Run, tape: &mut Vec<u8>) -> Result<(), String> {
     let Some(held) = run.volume.mount.held else {
-        let noise = noise_record(random);
-        let failed = random.percent(50).then_some(noise.as_slice());
-        encode(&failed.map_or(Record::Good, Record::Failed), tape);
+        let noise = Shown::with_capacity_given(noise_record(random));
+        let failed = random.percent(50).then_some(&noise);
+        encode(&failed.map_or(Record::Good, |shown| Record::Failed(&shown.record)), tape);
         return run.idle_completion(failed);
     };
     let record = damaged_record(random, &run.volume, &held);
-    let mut trial = run.volume.clone();
-    // A record that is taken after all would be a lie of the disk, which has no place in this run.
-    if trial.fail(&record, true).is_err() {
-        if trial != run.volume {
-            return Err("a refused record changed something".to_string());
-        }
+    if run.untrue_completion(&Shown::with_capacity_given(record))? {
         encode(&Record::Failed(&record), tape);
     }
     Ok(())
+}
+
+/// While a command is outstanding: its completion, true as it may be, on a copy that no run can have.
+fn impossible_completion(random: &mut Random, run: &mut Run) -> Result<(), String> {
+    let Some(held) = run.volume.mount.held else { return Ok(()) };
+    let copy = spoilt(random, &run.volume, &held);
+    let zone = run.disk.zones[run.disk.zone_at(held.command.address)];
+    let shown = truthful::record(random, &zone);
+    let failed = random.percent(50).then_some(&shown);
+    run.impossible_completion(&copy, failed)
 }
 
 /// A run in which completions come as they like, true or not.

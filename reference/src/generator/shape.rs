@@ -177,9 +177,7 @@ pub fn put(bytes: &mut [u8], at: usize, value: &[u8]) {
 }
 
 fn report(random: &mut Random, shape: &Shape) -> Vec<u8> {
-    let mut bytes = vec![0; HEADER];
-    put(&mut bytes, 8, &(shape.zones.len() as u32).to_le_bytes());
-    put(&mut bytes, 12, &u32::from(shape.capacity_given).to_le_bytes());
+    let mut bytes = report_header(shape.zones.len(), shape.capacity_given);
     for zone in &shape.zones {
         let mut record = encode_zone(random, zone);
         if !shape.capacity_given {
@@ -187,6 +185,13 @@ fn report(random: &mut Random, shape: &Shape) -> Vec<u8> {
         }
         bytes.extend_from_slice(&record);
     }
+    bytes
+}
+
+pub fn report_header(zones: usize, capacity_given: bool) -> Vec<u8> {
+    let mut bytes = vec![0; HEADER];
+    put(&mut bytes, 8, &(zones as u32).to_le_bytes());
+    put(&mut bytes, 12, &u32::from(capacity_given).to_le_bytes());
     bytes
 }
 

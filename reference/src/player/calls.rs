@@ -1,5 +1,6 @@
 //! Finding and showing files, and deciding reads, writes, truncations and flushes.
 
+use super::tape::CallRecord;
 use super::types::{
     sum_within, Access, Command, Condition, FileKind, Held, Mount, Operation, Refusal, Row, Volume,
     DISK_LIMIT, MAX_FILES, SECTOR,
@@ -39,6 +40,13 @@ impl Volume {
             self.mount.held = Some(Held { kind: call.kind, number: call.number, command });
         }
         Ok(reply)
+    }
+
+    /// The same for a call as a tape has it. With a kind byte that no file has, there is no such file.
+    pub fn recorded_call(&mut self, record: &CallRecord) -> Result<Reply, Refusal> {
+        self.check_counts()?;
+        let call = record.call().ok_or(Refusal::NoSuchFile)?;
+        self.call(&call)
     }
 
     /// The file of a name such as `seq/12`.

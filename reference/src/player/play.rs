@@ -95,11 +95,7 @@ fn answer(volume: &mut Volume, record: &Record) -> Option<String> {
 
 fn call_line(volume: &mut Volume, record: &CallRecord) -> String {
     let mark = record.verb.mark();
-    let result = match record.call() {
-        Some(call) => volume.call(&call),
-        None => Err(Refusal::NoSuchFile),
-    };
-    match result {
+    match volume.recorded_call(record) {
         Ok(Reply::Done(count)) => format!("{mark} 0 D {count}"),
         Ok(Reply::Issued(command)) => {
             let letter = letter(command.operation);

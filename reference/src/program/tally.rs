@@ -3,6 +3,7 @@
 use std::collections::BTreeMap;
 
 use crate::disk::consistency::Compared;
+use crate::disk::truth::FREEDOM_NAMES;
 
 /// Every answer that a tape can show. It can't show 10 and 30 (its tables and mount are always possible
 /// and long enough), nor 21 (its super block always has its length).
@@ -63,6 +64,14 @@ impl Tally {
         for (index, _) in self.compared.exceptions.iter().enumerate().filter(|(_, &count)| count == 0) {
             missing.push(format!("exception {} of the consistency check", index + 1));
         }
+        for (what, counts) in [("record", self.compared.records), ("report", self.compared.reports)] {
+            for (name, _) in FREEDOM_NAMES.iter().zip(counts).filter(|(_, count)| *count == 0) {
+                missing.push(format!("a true {what} with {name}"));
+            }
+        }
+        if self.compared.impossible == 0 {
+            missing.push("a completion answered 10".to_string());
+        }
         missing
     }
 
@@ -98,10 +107,17 @@ impl Tally {
     /// One line on a comparison.
     pub fn summary(&self) -> String {
         let answers = self.answers_text();
-        let Compared { states, rows, exceptions: [first, second, third] } = self.compared;
+        let Compared { states, rows, exceptions, failures, records, reports, impossible } = self.compared;
+        let (exceptions, records, reports) =
+            (counts_text(&exceptions), counts_text(&records), counts_text(&reports));
         format!(
-            "{} tapes, {} lines alike ({answers}), nonzero exits {}; fresh mounts {states}, rows {rows}, exceptions {first}/{second}/{third}",
+            "{} tapes, {} lines alike ({answers}), nonzero exits {}; fresh mounts {states}, rows {rows}, exceptions {exceptions}, failures {failures}, other bytes in records {records} and in reports {reports}, copies answered 10 {impossible}",
             self.tapes, self.lines, self.exits
         )
     }
+}
+
+/// `1/2/3`.
+fn counts_text(counts: &[u64]) -> String {
+    counts.iter().map(u64::to_string).collect::<Vec<_>>().join("/")
 }

@@ -3,7 +3,14 @@
 use super::*;
 use crate::disk::consistency::Run;
 use crate::disk::model::{Choice, Mishap};
-use crate::player::types::{Access, Condition, Row};
+use crate::disk::truth::Shown;
+use crate::generator::random::Random;
+use crate::generator::truthful;
+use crate::player::tape::{CallRecord, Verb};
+use crate::player::types::{Access, Command, Condition, Held, Operation, Row};
+
+/// Makes something wrong of something right.
+type Change<T> = fn(&mut T);
 
 const WELL: Choice = Choice { fail: false, landed_blocks: 0, mishap: None };
 
@@ -17,7 +24,12 @@ fn begin(options: &str) -> Run {
 
 fn issue_and_do(run: &mut Run, call: &Call, choice: &Choice) {
     run.call(call).unwrap();
-    assert!(run.doing(choice, record).unwrap().is_some());
+    assert!(run.doing(choice, own).unwrap().is_some());
+}
+
+/// A zone in the disk's own bytes.
+fn own(zone: &Zone) -> Shown {
+    Shown::with_capacity_given(record(zone))
 }
 
 /// Size, condition and access of seq/0.
@@ -109,4 +121,214 @@ fn mishaps() {
     assert!(run.disk.suffer(3, Mishap::BecomesOffline));
     assert!(!run.disk.suffer(3, Mishap::BecomesReadOnly), "nothing betters a zone");
     assert_eq!(run.disk.zones[3].condition, 15);
+}
+
+/// A failed write of which one block landed, shown in all bytes that are true of the zone then.
+#[test]
+fn every_true_record_leaves_the_same_row() {
+    for (options, access) in [("errors=repair", Access::Write), ("errors=zone-ro", Access::Read)] {
+        for (kind, condition) in [(2, 1), (2, 2), (2, 3), (2, 4), (3, 1), (3, 2), (3, 3), (3, 4)] {
+            let mut run = begin(options);
+            run.call(&write(SEQ, 0, 4096, 8192)).unwrap();
+            let show = |zone: &Zone| own(&Zone { kind, condition, ..*zone });
+            assert!(run.doing(&failing(1, None), show).unwrap().is_some());
+            assert_eq!(first(&run), (8192, Condition::Healthy, access));
+            let other_bytes = [u64::from(kind != 2), u64::from(condition != 2), 0, 0];
+            assert_eq!(run.compared.records, other_bytes);
+        }
+    }
+}
+
+/// A failed read that finds all well, told in any of these bytes, recovers nothing.
+#[test]
+fn every_true_record_of_a_zone_that_is_well() {
+    for (kind, condition) in [(2, 1), (2, 2), (2, 3), (2, 4), (3, 1), (3, 2), (3, 3), (3, 4)] {
+        let mut run = begin("errors=zone-offline");
+        let before = run.volume.clone();
+        run.call(&read(SEQ, 0, 0, 4096)).unwrap();
+        let show = |zone: &Zone| own(&Zone { kind, condition, ..*zone });
+        assert!(run.doing(&failing(0, None), show).unwrap().is_some());
+        assert_eq!(run.volume, before);
+    }
+}
+
+/// Without a capacity the length is taken for it, whatever stands in the field.
+#[test]
+fn a_conventional_record_without_a_capacity() {
+    for capacity in [0, 1, 524288, u64::MAX] {
+        let mut run = begin("errors=zone-ro");
+        run.call(&write(CNV, 1, 4096, 8192)).unwrap();
+        let show = |zone: &Zone| Shown { capacity_given: false, ..own(&Zone { capacity, ..*zone }) };
+        assert!(run.doing(&failing(1, None), show).unwrap().is_some());
+        assert_eq!((run.volume.cnv[1].size, run.volume.cnv[1].access), (268435456, Access::Read));
+        assert_eq!(run.compared.records, [0, 0, 0, 1]);
+    }
+}
+
+/// Fresh mounts from reports in any bytes that are true, while a zone is written, becomes full, and falls back.
+#[test]
+fn every_true_report_gives_the_same_rows() {
+    let mut random = Random::new(3, 4);
+    let mut run = begin("errors=repair").showing(move |zones| truthful::report(&mut random, zones));
+    for _ in 0..50 {
+        issue_and_do(&mut run, &truncate(SEQ, 0, 0), &WELL);
+        issue_and_do(&mut run, &write(SEQ, 0, 0, 8192), &WELL);
+        issue_and_do(&mut run, &truncate(SEQ, 0, 201326592), &WELL);
+        run.mishap(3, Mishap::Fall { blocks: 1 }).unwrap();
+        issue_and_do(&mut run, &flush(SEQ, 0), &WELL);
+    }
+    assert_eq!(first(&run), (201326592 - 4096, Condition::Healthy, Access::Write));
+    assert_eq!(run.compared.states, 1 + 50 * 5);
+}
+
+#[test]
+fn an_untrue_record_is_noticed() {
+    let untrue: [fn(&mut Zone); 4] = [
+        |zone| zone.pointer += 8,
+        |zone| zone.condition = 13,
+        |zone| zone.condition = 14,
+        |zone| zone.capacity -= 8,
+    ];
+    for change in untrue {
+        let mut run = begin("errors=repair");
+        run.call(&write(SEQ, 0, 4096, 8192)).unwrap();
+        let show = |zone: &Zone| {
+            let mut shown = *zone;
+            change(&mut shown);
+            own(&shown)
+        };
+        let complaint = run.doing(&failing(1, None), show).unwrap_err();
+        assert!(complaint.starts_with("consistency: zone 3 is Zone"), "{complaint}");
+        assert!(complaint.contains("which isn't true"), "{complaint}");
+    }
+}
+
+#[test]
+fn an_untrue_report_is_noticed() {
+    let untrue: [(Change<Vec<Zone>>, &str); 4] = [
+        (|zones| zones[3].pointer += 8, "zone 3 is Zone"),
+        (|zones| zones[4].condition = 15, "zone 4 is Zone"),
+        (|zones| zones[1].condition = 13, "zone 1 is Zone"),
+        (|zones| zones.truncate(4), "the fresh mount's report has another number of zones"),
+    ];
+    for (change, expected) in untrue {
+        let mut run = begin("errors=repair").showing(move |zones| {
+            let mut shown = zones.to_vec();
+            change(&mut shown);
+            report(1, &shown)
+        });
+        let complaint = run.mishap(0, Mishap::BecomesOffline).unwrap_err();
+        assert!(complaint.starts_with(&format!("consistency: {expected}")), "{complaint}");
+    }
+}
+
+/// A kind byte that no file has is answered 1, also while a command is outstanding, and moves nothing.
+#[test]
+fn kinds_that_no_file_has() {
+    let mut run = begin("errors=repair");
+    for outstanding in [false, true] {
+        if outstanding {
+            run.call(&flush(SEQ, 0)).unwrap();
+        }
+        let before = run.volume.clone();
+        for verb in [Verb::Read, Verb::Write, Verb::Truncate, Verb::Flush] {
+            for kind in [2, 3, 255] {
+                let record = CallRecord { verb, kind, number: 0, offset: 0, length: 0 };
+                run.recorded_call(&record).unwrap();
+                assert_eq!(number(run.volume.recorded_call(&record)), 1);
+                assert_eq!(run.volume, before);
+            }
+        }
+    }
+    run.recorded_call(&CallRecord { verb: Verb::Flush, kind: 1, number: 1, offset: 0, length: 0 }).unwrap();
+}
+
+/// Calls that a player with a wrong table or count answers 10, or 1 though the file is there.
+#[test]
+fn answers_that_no_call_of_a_run_has() {
+    let wrong: [(Change<Volume>, &str); 4] = [
+        (|volume| volume.seq[0].size += 1, "a call on a file that is there is answered 10"),
+        (|volume| volume.mount.block = 8192, "a call on a file that is there is answered 10"),
+        (|volume| volume.mount.seq_files = 0, "a call on a file that is there is answered 1"),
+        (|volume| volume.cnv.clear(), "a call on a file that is there is answered 10"),
+    ];
+    for (change, expected) in wrong {
+        let mut run = begin("errors=repair");
+        change(&mut run.volume);
+        let complaint = run.call(&read(SEQ, 0, 0, 1)).unwrap_err();
+        assert!(complaint.starts_with(&format!("consistency: {expected}\n")), "{complaint}");
+    }
+    let mut run = begin("errors=repair");
+    run.volume.mount.seq_files = 3;
+    let complaint = run.call(&read(SEQ, 2, 0, 1)).unwrap_err();
+    assert!(complaint.contains("a file that isn't there is answered 10"), "{complaint}");
+    run.volume.mount.seq_files = 1023;
+    let unknown = CallRecord { verb: Verb::Read, kind: 2, number: 0, offset: 0, length: 0 };
+    let complaint = run.recorded_call(&unknown).unwrap_err();
+    assert!(complaint.contains("a file that isn't there is answered 10"), "{complaint}");
+}
+
+/// A command that no call issues.
+const FLUSH_WITH_LENGTH: Held = Held {
+    kind: SEQ,
+    number: 0,
+    command: Command { operation: Operation::Flush, address: 805306368, length: 1 },
+};
+
+/// Completions that a player answers 10 or 9 because it held something else than it should, or another row.
+#[test]
+fn answers_that_no_completion_of_a_run_has() {
+    let wrong: [(Change<Volume>, Choice, &str); 3] = [
+        (|volume| volume.mount.held = Some(FLUSH_WITH_LENGTH), WELL, "10 and not 0"),
+        (|volume| volume.seq[0].size += 4096, failing(0, None), "10 and not 7"),
+        (|volume| volume.seq[0].capacity += 4096, failing(0, None), "9 and not 7"),
+    ];
+    for (change, choice, expected) in wrong {
+        let mut run = begin("errors=repair");
+        run.call(&write(SEQ, 0, 4096, 8192)).unwrap();
+        change(&mut run.volume);
+        let complaint = run.doing(&choice, own).unwrap_err();
+        let expected = format!("consistency: a truthful completion is answered {expected}\n");
+        assert!(complaint.starts_with(&expected), "{complaint}");
+    }
+    let mut run = begin("errors=repair");
+    run.call(&write(SEQ, 0, 4096, 8192)).unwrap();
+    let complaint = run.idle_completion(None).unwrap_err();
+    assert!(
+        complaint.starts_with("consistency: an idle completion is answered 0 and not 8\n"),
+        "{complaint}"
+    );
+}
+
+/// A record that isn't the disk's comes only where it is refused, and leaves the command outstanding.
+#[test]
+fn untrue_completions() {
+    let mut run = begin("errors=repair");
+    run.call(&write(SEQ, 0, 4096, 8192)).unwrap();
+    let before = run.volume.clone();
+    let zone = run.disk.zones[3];
+    assert_eq!(run.untrue_completion(&own(&Zone { pointer: zone.pointer + 16, ..zone })), Ok(false));
+    assert_eq!(run.untrue_completion(&own(&Zone { pointer: zone.pointer + 1, ..zone })), Ok(true));
+    assert_eq!(run.volume, before);
+    run.volume.mount.block = 1024;
+    let complaint = run.untrue_completion(&own(&zone)).unwrap_err();
+    assert!(
+        complaint.starts_with("consistency: an untrue completion is answered 10 and not 9"),
+        "{complaint}"
+    );
+}
+
+#[test]
+fn completions_on_copies_that_no_run_has() {
+    let mut run = begin("errors=repair");
+    run.call(&write(SEQ, 0, 4096, 8192)).unwrap();
+    let possible = run.volume.clone();
+    let shown = own(&run.disk.zones[3]);
+    for failed in [None, Some(&shown)] {
+        let spoilt = Volume { seq: Vec::new(), ..possible.clone() };
+        assert_eq!(run.impossible_completion(&spoilt, failed), Ok(()));
+        let complaint = run.impossible_completion(&possible, failed).unwrap_err();
+        assert!(complaint.contains("a completion on a copy that no run has is answered"), "{complaint}");
+    }
+    assert_eq!((run.volume, run.compared.impossible), (possible, 4));
 }

@@ -1,9 +1,11 @@
 //! The generator: the same tapes for the same seed, other ones for another, and a check that holds.
 
+use std::collections::BTreeSet;
+
 use crate::generator::random::Random;
 use crate::generator::{generate, long, MAX_PAD};
 use crate::player::play::play;
-use crate::player::tape::{Next, Reader, Record};
+use crate::player::tape::{Next, Reader, Record, Verb};
 use crate::program::tally::Tally;
 
 fn calls_on(tape: &[u8]) -> usize {
@@ -14,6 +16,19 @@ fn calls_on(tape: &[u8]) -> usize {
         Next::Broken => panic!("a broken tape"),
     });
     records.filter(|record| matches!(record, Record::Call(_))).count()
+}
+
+/// What each record of a tape after its mount was answered, up to the first that can't be read.
+fn answered(tape: &[u8]) -> Vec<(Record<'_>, String)> {
+    let mut answered = Vec::new();
+    for line in play(tape).into_iter().skip(1) {
+        let mut reader = Reader::new(tape);
+        reader.at = line.at;
+        if let Next::Record(record) = reader.read() {
+            answered.push((record, line.text));
+        }
+    }
+    answered
 }
 
 #[test]
@@ -42,7 +57,53 @@ fn the_check_holds_and_sees_much() {
         play(&generated.bytes).iter().for_each(|line| tally.count_line(&line.text));
     }
     assert!(tally.compared.exceptions.iter().all(|&count| count > 0), "{}", tally.summary());
+    assert!(tally.compared.records.iter().all(|&count| count > 0), "{}", tally.summary());
+    assert!(tally.compared.reports.iter().all(|&count| count > 0), "{}", tally.summary());
+    assert!(tally.compared.impossible > 0, "{}", tally.summary());
     assert!(tally.missing().len() < 5, "{:?}", tally.missing());
+}
+
+/// The tapes of checked runs have failures in all bytes that are true of a zone, and as many as their runs had.
+#[test]
+fn checked_runs_have_every_true_record() {
+    let mut seen = BTreeSet::new();
+    for index in 1..=200 {
+        let generated = generate(1, index);
+        let compared = generated.check.unwrap();
+        // Other tapes have completions that are true of no disk.
+        if compared.states == 0 {
+            continue;
+        }
+        let mut failures = 0;
+        for (record, text) in answered(&generated.bytes) {
+            if let (Record::Failed(bytes), true) = (record, text.starts_with("NO 7")) {
+                seen.insert((bytes[24], bytes[25]));
+                failures += 1;
+            }
+        }
+        assert_eq!(failures, compared.failures, "tape {index}");
+    }
+    let conventional = [(1, 0), (1, 13), (1, 15)];
+    let sequential = |kind| [1, 2, 3, 4, 13, 14, 15].map(|condition| (kind, condition));
+    let expected: Vec<(u8, u8)> = [&conventional[..], &sequential(2), &sequential(3)].concat();
+    assert_eq!(seen, BTreeSet::from_iter(expected));
+}
+
+/// Every call comes with kinds that no file has, and is answered 1 then.
+#[test]
+fn kinds_above_one_are_on_the_tapes() {
+    let mut counts = [0; 4];
+    for index in 1..=150 {
+        for (record, text) in answered(&generate(1, index).bytes) {
+            let Record::Call(call) = record else { continue };
+            if call.kind > 1 {
+                assert_eq!(text, format!("{} 1", call.verb.mark()));
+                let verbs = [Verb::Read, Verb::Write, Verb::Truncate, Verb::Flush];
+                counts[verbs.iter().position(|&verb| verb == call.verb).unwrap()] += 1;
+            }
+        }
+    }
+    assert!(counts.iter().all(|&count| count > 0), "{counts:?}");
 }
 
 #[test]

@@ -1,5 +1,6 @@
 //! Tests with numbers from the papers, or worked out by hand; none asks this program for its expectation.
 
+mod answers;
 mod borders;
 mod calls;
 mod completion;
@@ -8,6 +9,7 @@ mod generator;
 mod mount;
 mod sheet;
 mod tape;
+mod truthful;
 
 use crate::player::calls::{Call, Reply, Request};
 use crate::player::mount::Input;
