@@ -1,6 +1,7 @@
 /*
  * A small program on the proved library: mounts a volume, appends to a file, has the next append fail halfway, recovers, and goes on.
- * The disk is played by this program: it makes up the super block, the zone report, and the record that comes with the failure.
+ * The disk is played by this program: it makes up the super block, the zone report, and the record that comes with the failure. On Linux the
+ * bytes that BLKREPORTZONE gives, and those of a zone's record, can be passed on as they come.
  * It prints each step, and ends with status 1 where a step answers otherwise than it should. Build and run: docs/LINKING.md.
  */
 #include <inttypes.h>
@@ -46,7 +47,10 @@ static void make_zone(uint8_t *record, uint64_t start, unsigned type, unsigned c
   put(record + ZONEFS_RECORD_CAPACITY, capacity, 8);
 }
 
-/* Three conventional zones, then a sequential one with a block written, and an empty one. */
+/*
+ * Three conventional zones, then a sequential one with a block written, and a full one. A full zone has no pointer: what the disk leaves in
+ * that field, here 0, is passed on too.
+ */
 static void make_report(uint8_t *report) {
   unsigned i;
   uint8_t *zones = report + ZONEFS_HEADER_BYTES;
@@ -56,7 +60,7 @@ static void make_report(uint8_t *report) {
   for (i = 0; i < 3; i++)
     make_zone(zones + i * ZONEFS_ZONE_BYTES, (uint64_t)i * ZONE_SECTORS, 1, 0, ZONE_SECTORS, 0);
   make_zone(zones + 3 * ZONEFS_ZONE_BYTES, 3ull * ZONE_SECTORS, 2, 2, CAPACITY_SECTORS, 3ull * ZONE_SECTORS + BLOCK / SECTOR);
-  make_zone(zones + 4 * ZONEFS_ZONE_BYTES, 4ull * ZONE_SECTORS, 2, 1, CAPACITY_SECTORS, 4ull * ZONE_SECTORS);
+  make_zone(zones + 4 * ZONEFS_ZONE_BYTES, 4ull * ZONE_SECTORS, 2, 14, CAPACITY_SECTORS, 0);
 }
 
 /* Prints what an answer has beside its number. */
@@ -96,6 +100,16 @@ static uint64_t size_now(void) {
   return shown.size;
 }
 
+/* The file of the full zone has its whole capacity. */
+static void show_full_file(void) {
+  struct zonefs_volume_answer shown = zonefs_volume_show(&volume, ZONEFS_SEQ, 1);
+  step("show seq/1, which is full", shown, ZONEFS_OK);
+  if (shown.size != shown.capacity) {
+    printf("the file should be as long as its capacity\n");
+    exit(1);
+  }
+}
+
 /* Lends the tables to the volume, and mounts it from the disk's first bytes and its report. */
 static void mount_volume(void) {
   static uint8_t super_block[ZONEFS_SUPER_BYTES];
@@ -113,6 +127,7 @@ int main(void) {
   uint64_t size;
 
   mount_volume();
+  show_full_file();
   step("find seq/0", zonefs_volume_find(&volume, "seq/0"), ZONEFS_OK);
   size = size_now();
 

@@ -176,8 +176,9 @@ enum {
 
 /*
  * A zone report and a zone record are the bytes of struct blk_zone_report, with its zones, and of struct blk_zone of linux/blkzoned.h, as
- * BLKREPORTZONE gives them on a little-endian machine. All numbers are little-endian, positions and lengths are in sectors, and bytes not
- * named here are not looked at. Where each field stands, in bytes:
+ * BLKREPORTZONE gives them on a little-endian machine. A zone's bytes are passed on as they come: where a zone has no write pointer, as a full
+ * one has none, that field may hold anything, and a full zone's size is its capacity. All numbers are little-endian, positions and lengths are
+ * in sectors, and bytes not named here are not looked at. Where each field stands, in bytes:
  */
 enum {
   ZONEFS_REPORT_SECTOR = 0,     /* 8 bytes: where the report begins, 0 */
@@ -186,7 +187,7 @@ enum {
 
   ZONEFS_RECORD_START = 0,      /* 8 bytes */
   ZONEFS_RECORD_LENGTH = 8,     /* 8 bytes */
-  ZONEFS_RECORD_POINTER = 16,   /* 8 bytes: the write pointer; of a full zone it has to be start + capacity */
+  ZONEFS_RECORD_POINTER = 16,   /* 8 bytes: the write pointer, looked at only under the conditions 1 to 4 */
   ZONEFS_RECORD_TYPE = 24,      /* 1 byte: 1 conventional, 2 or 3 sequential */
   ZONEFS_RECORD_CONDITION = 25, /* 1 byte: 0 no pointer; 1 empty, 2 or 3 open, 4 closed, 14 full; 13 read-only, 15 offline */
   ZONEFS_RECORD_CAPACITY = 32   /* 8 bytes, looked at only with ZONEFS_CAPACITY_GIVEN; without it the capacity is the length */

@@ -251,7 +251,8 @@ static inline struct zonefs_volume_answer zonefs_volume_complete(struct zonefs_v
 
 /*
  * The outstanding command failed: FAILED, or refused by 8, 9, 10. The record is that of the zone at the command's address, as it is after
- * the failure: a struct blk_zone, or any 64 bytes laid out like it; capacity_given is the flags of the report that it came with.
+ * the failure: a struct blk_zone as it comes, or any 64 bytes laid out like it; capacity_given is the flags of the report that it came
+ * with.
  */
 static inline struct zonefs_volume_answer zonefs_volume_fail(struct zonefs_volume *volume, const void *record,
                                                              size_t record_bytes, uint32_t capacity_given) {

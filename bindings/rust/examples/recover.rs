@@ -10,7 +10,7 @@ const SECTOR: u64 = 512;
 const ZONE_SECTORS: u64 = 524_288;
 const CAPACITY_SECTORS: u64 = 393_216;
 
-/// Five zones: three conventional, then two sequential ones that have been written up to their pointers.
+/// Five zones: three conventional, then two sequential ones that have been written up to these pointers.
 struct Disk {
     pointers: [u64; 2],
     /// So many blocks of the next command land, and then it fails.
@@ -41,11 +41,12 @@ impl Disk {
     /// The zone as it is now.
     fn record(&self, zone: u64) -> [u8; words::ZONE_BYTES] {
         let start = zone * ZONE_SECTORS;
-        // Type, condition, capacity and pointer: a conventional zone has no pointer, a sequential one is empty or open here.
+        // Type, condition, capacity and pointer: a conventional zone has no pointer, and neither has a full one, so there it may be 0.
         let (kind, condition, capacity, pointer) = match zone.checked_sub(Disk::CONVENTIONAL) {
             None => (1, 0, ZONE_SECTORS, 0),
             Some(number) => match self.pointers[number as usize] {
                 pointer if pointer == start => (2, 1, CAPACITY_SECTORS, pointer),
+                pointer if pointer == start + CAPACITY_SECTORS => (2, 14, CAPACITY_SECTORS, 0),
                 pointer => (2, 2, CAPACITY_SECTORS, pointer),
             },
         };
@@ -99,15 +100,20 @@ fn step(what: &str, answer: Result<u64, Refusal>, expected: Result<u64, Refusal>
 }
 
 fn main() -> Result<(), Box<dyn Error>> {
-    // seq/0 has one block, seq/1 is empty.
+    // seq/0 has one block, seq/1 is full.
     let start = |zone: u64| zone * ZONE_SECTORS;
-    let mut disk = Disk { pointers: [start(3) + BLOCK / SECTOR, start(4)], fails_after: None };
+    let pointers = [start(3) + BLOCK / SECTOR, start(4) + CAPACITY_SECTORS];
+    let mut disk = Disk { pointers, fails_after: None };
     let (super_block, report) = (Disk::super_block(), disk.report());
     let source =
         Source { block: BLOCK, super_block: &super_block, options: b"errors=repair", report: &report };
     let mut volume = Volume::mount(&source, [EMPTY_ROW; 4], [EMPTY_ROW; 4])?;
     let value = volume.value().ok_or("a mount gives a mount value")?;
     println!("mounted: {} cnv files, {} seq files", value.cnv_files, value.seq_files);
+
+    // A full zone's file has its capacity.
+    let full = volume.find("seq/1")?;
+    step("size of seq/1", volume.show(full).map(|file| file.size), Ok(CAPACITY_SECTORS * SECTOR))?;
 
     let log = volume.find("seq/0")?;
     let size = |volume: &Mounted| volume.show(log).map(|file| file.size);

@@ -14,7 +14,8 @@ pub struct Source<'a> {
     pub super_block: &'a [u8],
     /// The option text, such as `errors=repair`.
     pub options: &'a [u8],
-    /// The zone report: `struct blk_zone_report` with its zones, as BLKREPORTZONE of Linux gives it.
+    /// The zone report: `struct blk_zone_report` with its zones, as BLKREPORTZONE of Linux gives it. The zones are handed over as they
+    /// come: what stands in the pointer of a full one isn't looked at, and its file has its capacity.
     pub report: &'a [u8],
 }
 

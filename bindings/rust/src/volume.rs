@@ -122,8 +122,8 @@ impl<T: AsRef<[RowWords]> + AsMut<[RowWords]>> Volume<T> {
 
     /// The disk failed the outstanding command; a read or write that came out short counts as failed.
     ///
-    /// `record` is the 64 bytes of the zone at the command's address as it is after the failure, a `struct blk_zone` of Linux;
-    /// `capacity_given` is the flag of the report that it came with.
+    /// `record` is the 64 bytes of the zone at the command's address as it is after the failure, a `struct blk_zone` of Linux as it
+    /// comes, a full zone's too; `capacity_given` is the flag of the report that it came with.
     ///
     /// This is always a refusal: [`Refusal::Failed`] with the file's size now, and nothing is outstanding any more; or 8, 9 or
     /// 10, and nothing is changed. So a driver can answer for a whole command with

@@ -211,7 +211,7 @@ constants! {
     RECORD_START: usize = 0;
     /// A zone record: the length, 8 bytes.
     RECORD_LENGTH: usize = 8;
-    /// A zone record: the write pointer, 8 bytes.
+    /// A zone record: the write pointer, 8 bytes, looked at only under the conditions 1 to 4.
     RECORD_POINTER: usize = 16;
     /// A zone record: 1 conventional, 2 or 3 sequential; one byte.
     RECORD_TYPE: usize = 24;

@@ -38,8 +38,8 @@ use Rattle.disk.specs.Disk.{zoneHolding, moved, struck, allows, perform, report
 use Rattle.disk.specs.Shows.{showsZone, showsRecord, showsZones, shows}
 use Rattle.consistency.specs.FileHistory.{freshSize, atMount, unmoved, afterMishap, afterSuccess, afterFailure}
 use Rattle.consistency.specs.System.{fileZone, mounted, step, run, allTruthful}
-use Rattle.consistency.specs.Cases.{Setting, paper, aggregated, block512, zone4ReadOnly, blockIn, aggregates, report, superblock, uuid, optionText, mountUnder, casesOf}
-use Rattle.consistency.specs.Runs.{disk, replies, commandRuns, mishapRuns, exceptionRuns, otherRuns}
+use Rattle.consistency.specs.Cases.{Setting, paper, aggregated, block512, zone4ReadOnly, zone4Full, blockIn, aggregates, report, superblock, uuid, optionText, mountUnder, casesOf}
+use Rattle.consistency.specs.Runs.{disk, replies, commandRuns, mishapRuns, exceptionRuns, fullRuns, otherRuns}
 
 -- THE SUPER BLOCKS are good, and say this
 
@@ -73,12 +73,13 @@ abbrev cnvTable : Bool → List ℕ
 cnvTable false = 524288 ∷ 268435456 ∷ 268435456 ∷ 0 ∷ 2 ∷ 1048576 ∷ 268435456 ∷ 268435456 ∷ 0 ∷ 2 ∷ []
 cnvTable true = 524288 ∷ 536870912 ∷ 536870912 ∷ 0 ∷ 2 ∷ 7 ∷ 7 ∷ 7 ∷ 7 ∷ 7 ∷ []
 
--- condition and access of seq/1, whose zone may be read-only
+-- size, condition and access of seq/1, whose zone may be read-only or full
 abbrev lastWords : Setting → List ℕ
-lastWords paper = 0 ∷ 2 ∷ []
-lastWords aggregated = 0 ∷ 2 ∷ []
-lastWords block512 = 0 ∷ 2 ∷ []
-lastWords zone4ReadOnly = 2 ∷ 0 ∷ []
+lastWords paper = 0 ∷ 0 ∷ 2 ∷ []
+lastWords aggregated = 0 ∷ 0 ∷ 2 ∷ []
+lastWords block512 = 0 ∷ 0 ∷ 2 ∷ []
+lastWords zone4ReadOnly = 0 ∷ 2 ∷ 0 ∷ []
+lastWords zone4Full = 201326592 ∷ 0 ∷ 2 ∷ []
 
 abbrev pub mountGives : Setting → ErrorPolicy → Mounting
 mountGives x p = record {
@@ -89,7 +90,7 @@ mountGives x p = record {
     outstanding = Idle;
   };
   cnv = cnvTable (aggregates x);
-  seq = 1572864 ∷ 201326592 ∷ 4096 ∷ 0 ∷ 2 ∷ 2097152 ∷ 201326592 ∷ 0 ∷ lastWords x;
+  seq = 1572864 ∷ 201326592 ∷ 4096 ∷ 0 ∷ 2 ∷ 2097152 ∷ 201326592 ∷ lastWords x;
 }
 
 pub mount-computed : (x : Setting) (p : ErrorPolicy) → mountUnder x p ≡ mountGives x p
@@ -101,6 +102,7 @@ mount-computed paper p = rw (super-read false, super-aggregates false, options-c
 mount-computed aggregated p = rw (super-read true, super-aggregates true, options-chosen p) refl
 mount-computed block512 p = rw (super-read false, super-aggregates false, options-chosen p) refl
 mount-computed zone4ReadOnly p = rw (super-read false, super-aggregates false, options-chosen p) refl
+mount-computed zone4Full p = rw (super-read false, super-aggregates false, options-chosen p) refl
 
 -- the reports show the disks
 pub report-shown : (x : Setting) → shows (report x) (disk x) ≡ true
@@ -109,19 +111,21 @@ report-shown paper = refl
 report-shown aggregated = refl
 report-shown block512 = refl
 report-shown zone4ReadOnly = refl
+report-shown zone4Full = refl
 
 -- THE TABLES, of the mounts as they are computed
 
 pub record Computed : Type 0 where
-  pub cases : AsStated (casesOf (mountGives paper Repair) (mountGives aggregated Repair))
+  pub cases : AsStated (casesOf (mountGives paper Repair) (mountGives aggregated Repair) (mountGives zone4Full Repair))
   pub commands : AsStated (commandRuns mountGives)
   pub mishaps : AsStated (mishapRuns mountGives)
   pub exceptions : AsStated (exceptionRuns mountGives)
+  pub full : AsStated (fullRuns mountGives)
   pub others : AsStated (otherRuns mountGives)
 
 pub computed : Computed
-unfolding casesOf commandRuns mishapRuns exceptionRuns otherRuns disk little encodeZone le goodRecord
+unfolding casesOf commandRuns mishapRuns exceptionRuns fullRuns otherRuns disk little encodeZone le goodRecord
     rowAt setRow countsFit lookupOf soundRow fileOf refuse answerAfter atOnce readChecks writeChecks readRow writeRow truncateRow flushRow dispatched
     issuable pendingOf completionOf succeeded matchesSequential withinConventional recordFits recoveredRow recovered effectOf effectBy engine.step
     moved struck allows perform reported showsZone showsRecord freshSize atMount unmoved afterMishap afterSuccess afterFailure zoneHolding fileZone mounted step run allTruthful replies
-computed = record { cases = refl; commands = refl; mishaps = refl; exceptions = refl; others = refl }
+computed = record { cases = refl; commands = refl; mishaps = refl; exceptions = refl; full = refl; others = refl }

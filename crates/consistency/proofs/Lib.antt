@@ -1,3 +1,4 @@
+pub mod Sizes
 pub mod SoundRows
 pub mod Rows
 pub mod Mounted

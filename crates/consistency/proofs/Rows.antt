@@ -13,16 +13,16 @@ use Rattle.types.specs.declared.Row.{Row}
 use Rattle.types.specs.declared.FileKind.{FileKind}
 use Rattle.types.specs.declared.FileKind.the-variants.{Conventional, Sequential}
 use Rattle.types.specs.Blocks.{bytesOf, blockSectors, onBlock}
-use Rattle.types.proofs.Blocks.{IsBlock, small, large}
+use Rattle.types.proofs.Blocks.{IsBlock}
 use Rattle.types.proofs.Tests.{both, and-left, and-right, means-out}
 use Rattle.zones.specs.declared.Zone.{Zone}
-use Rattle.zones.specs.Zone.{conventional, sequential, healthy, pointed, writtenSize, goodRecord}
+use Rattle.zones.specs.Zone.{conventional, sequential, healthy, writtenSize, saysSize, goodRecord}
 use Rattle.zones.proofs.Laws.{record-told, zone-told}
 use Rattle.files.specs.Files.{fileRow, rowIf, seqRows, startsConventional, runsWith, runs, startOf, capacityOf, allHealthy, runRow, cnvRows}
 use Rattle.report.proofs.Laws.{AllGood}
 use Rattle.checks.specs.Facts.{SoundRow}
 use Rattle.disk.proofs.Whole.{whole-next}
-use Rattle.recovery.proofs.Laws.{WellSized, written-well}
+use Rattle.consistency.proofs.Sizes.{WellSized, bytes-whole, written-well}
 
 -- where a file lies: these sectors
 record Lies (b start sectors : ℕ) : Type 0 where
@@ -31,10 +31,6 @@ record Lies (b start sectors : ℕ) : Type 0 where
   roomy : 0 < sectors
   whole : sectors % blockSectors b ≡ 0
   ends : start + sectors ≤ 2 ^ 40
-
-bytes-whole : {b : ℕ} → IsBlock b → (n : ℕ) → n % blockSectors b ≡ 0 → bytesOf n % b ≡ 0
-bytes-whole small n e = omega arith
-bytes-whole large n e = omega arith
 
 file-sound : {b start sectors size : ℕ} (k : FileKind) (well : Bool) → IsBlock b → Lies b start sectors → (well ≡ true → WellSized b sectors size)
     → (k ≡ Conventional → size ≡ bytesOf sectors) → SoundRow b k (fileRow well start (bytesOf sectors) size)
@@ -73,7 +69,7 @@ record Told (b at : ℕ) (z : Zone) (zs : List Zone) : Type 0 where
   start : z .start ≡ at
   lies : Lies b (z .start) (z .capacity)
   flat : conventional z ≡ true → z .capacity ≡ z .length
-  point : pointed z ≡ true → WellSized b (z .capacity) (writtenSize z)
+  size : saysSize z ≡ true → WellSized b (z .capacity) (writtenSize z)
   next : (at + z .length) % blockSectors b ≡ 0
   rest : AllGood (blockSectors b) (at + z .length) zs
 
@@ -111,7 +107,7 @@ zone-good {b} {at} {z} {zs} block inner on (g, rest) =
       start = start;
       lies = record-lies z block good (rw start inner) (rw start on);
       flat = flat;
-      point = written-well block z good (rw start on);
+      size = written-well block z good (rw start on);
       next = whole-next block at (z .length) on spans;
       rest = subst (λ n. AllGood (blockSectors b) (n + z .length) zs) start rest;
     }
@@ -136,7 +132,7 @@ unfolding seqRows
 seqs-sound block at [] inner on good = none
 seqs-sound block at (z ∷ zs) inner on good =
     let t = zone-good block inner on good in
-    if-sound (sequential z) (λ s. file-sound Sequential (healthy z) block (t .lies) (λ h. t .point (both s h)) (λ e. absurd (differ e)))
+    if-sound (sequential z) (λ s. file-sound Sequential (healthy z) block (t .lies) (λ h. t .size (both s h)) (λ e. absurd (differ e)))
     (seqs-sound block (at + z .length) zs (omega arith) (t .next) (t .rest))
 
 -- THE CONVENTIONAL FILES. Each run lies where its zones lie.

@@ -6,7 +6,7 @@ use Rattle.types.specs.declared.ErrorPolicy.{ErrorPolicy}
 use Rattle.types.specs.Stated.{Case, AsStated}
 use Rattle.mount.specs.Mount.{Mounting}
 use Rattle.consistency.specs.Cases.{Setting, mountUnder}
-use Rattle.consistency.specs.Runs.{commandRuns, mishapRuns, exceptionRuns, otherRuns, Runs}
+use Rattle.consistency.specs.Runs.{commandRuns, mishapRuns, exceptionRuns, fullRuns, otherRuns, Runs}
 use Rattle.consistency.proofs.Computed.{mountGives, mount-computed, report-shown, computed}
 
 same-mounts : mountUnder ≡ mountGives
@@ -22,5 +22,6 @@ small-runs = record {
   commands = from-computed commandRuns (computed .commands);
   mishaps = from-computed mishapRuns (computed .mishaps);
   exceptions = from-computed exceptionRuns (computed .exceptions);
+  full = from-computed fullRuns (computed .full);
   others = from-computed otherRuns (computed .others);
 }

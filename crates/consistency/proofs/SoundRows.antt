@@ -33,7 +33,7 @@ use Rattle.recovery.specs.Success.{sizeAfter, rowAfter}
 use Rattle.recovery.specs.Fits.{matchesSequential, recordFits}
 use Rattle.recovery.specs.Grid.{recoveryGrid, ruleOf}
 use Rattle.recovery.specs.Recovery.{fixedSize, readAtMost, ruledSize, ruledAccess, recoveredRow}
-use Rattle.recovery.proofs.Laws.{written-well}
+use Rattle.consistency.proofs.Sizes.{written-well}
 
 some-access : (a : Access) → isNone a ≡ false → a ≡ access.Nothing → ⊥
 some-access a h e = false≢true (sym (rw e at h))

@@ -64,13 +64,13 @@ record Good (b at : ℕ) (r : Zone) (z : DiskZone) (rs : List Zone) : Type 0 whe
   sound : SoundZone b z
   rest : AllGood (b / 512) (at + z .length) rs
 
-good-first : {b at : ℕ} {r : Zone} {z : DiskZone} {rs : List Zone} → ShowsZone r z → at % (b / 512) ≡ 0 → AllGood (b / 512) at (r ∷ rs) → Good b at r z rs
+good-first : {b at : ℕ} {r : Zone} {z : DiskZone} {rs : List Zone} → IsBlock b → ShowsZone r z → at % (b / 512) ≡ 0 → AllGood (b / 512) at (r ∷ rs) → Good b at r z rs
 unfolding AllGood
-good-first {b} {at} {r} {z} {rs} w on (g, rest) =
+good-first {b} {at} {r} {z} {rs} block w on (g, rest) =
     let (s, good) = zone-told (b / 512) at r g in
     let start : z .start ≡ at = sym (w .start) ∙ s in
     let next : r .start + r .length ≡ at + z .length = omega (arith, s, w .length) in
-    record { start = start; sound = sound-of w good (rw start on); rest = subst (λ n. AllGood (b / 512) n rs) next rest }
+    record { start = start; sound = sound-of block w good (rw start on); rest = subst (λ n. AllGood (b / 512) n rs) next rest }
 
 -- THE SEQUENTIAL FILES, past zone 0
 files-at : {b : ℕ} → IsBlock b → (p : ErrorPolicy) (at : ℕ) {rs : List Zone} {zs : List DiskZone} → ShowsZones rs zs → 0 < at → at % (b / 512) ≡ 0 → AllGood (b / 512) at rs
@@ -78,7 +78,7 @@ files-at : {b : ℕ} → IsBlock b → (p : ErrorPolicy) (at : ℕ) {rs : List Z
 unfolding seqRows
 files-at block p at none inner on l = files.none
 files-at {b} block p at (next {r = r} {z = z} {rs = rs} {zs = zs} w ws) inner on l =
-    let g = good-first w on l in
+    let g = good-first block w on l in
     by (z .kind) refl (sequential r) (says-sequential w) g (files-at block p (at + z .length) ws (omega arith) (whole-next block at (z .length) on (g .sound .spans)) (g .rest))
   where
     by : (k : FileKind) → z .kind ≡ k → (t : Bool) → t ≡ not (isConventional (z .kind)) → Good b at r z rs → Files b p (at + z .length) zs (map atMount zs) (seqRows rs) (length (seqRows rs))
@@ -99,7 +99,7 @@ pub files-start : {b : ℕ} → IsBlock b → (p : ErrorPolicy) {rs : List Zone}
 unfolding seqRows
 files-start block p none l = files.none
 files-start {b} block p (next {r = r} {z = z} {rs = rs} w ws) l =
-    let g = good-first w (zero-mod (b / 512)) l in
+    let g = good-first block w (zero-mod (b / 512)) l in
     files.other (g .start) (nothing-first (z .kind) (z .start) (g .start)) (g .sound)
     (files-at block p (0 + z .length) ws (omega (arith, g .sound .long)) (whole-next block 0 (z .length) (zero-mod (b / 512)) (g .sound .spans)) (g .rest))
 
@@ -183,7 +183,7 @@ runs-at : {b : ℕ} → IsBlock b → (g : Bool) (at : ℕ) {rs : List Zone} {zs
 unfolding runs
 runs-at block g at none on l = record { cover = nil; head = λ e. absurd (false≢true e) }
 runs-at {b} block g at (next {r = r} {z = z} {rs = rs} {zs = zs} w ws) on l =
-    let f = good-first w on l in
+    let f = good-first block w on l in
     by (conventional r) refl (g && startsConventional rs) refl f (runs-at block g (at + z .length) ws (whole-next block at (z .length) on (f .sound .spans)) (f .rest))
   where
     plain : conventional r ≡ true → z .kind ≡ Conventional
@@ -200,5 +200,5 @@ pub covers-start : {b : ℕ} → IsBlock b → (g : Bool) {rs : List Zone} {zs :
 unfolding cnvRows runs
 covers-start block g none l = nil
 covers-start {b} block g (next {r = r} {z = z} {rs = rs} {zs = zs} w ws) l =
-    let f = good-first w (zero-mod (b / 512)) l in
+    let f = good-first block w (zero-mod (b / 512)) l in
     all-later 0 z zs (f .start) (runs-at block g (0 + z .length) ws (whole-next block 0 (z .length) (zero-mod (b / 512)) (f .sound .spans)) (f .rest) .cover)

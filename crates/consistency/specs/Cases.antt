@@ -1,4 +1,4 @@
--- The starred cases of the paper, in its order: "proved as a single table with one claim about the definitions". All of it from bytes.
+-- The starred cases of the papers, in their order: "proved as a single table with one claim about the definitions". All of it from bytes.
 -- "Block 4096, five zones of 524288 sectors; 0 to 2 conventional; zone 3 sequential, condition 2, start 1572864, capacity 393216
 -- (201326592 bytes), pointer 1572872; zone 4 alike in capacity, empty; repair."
 use mathlib.Core.Bool.{Bool, true, false}
@@ -25,36 +25,41 @@ use Rattle.engine.specs.Engine.{mounted, call, completion, Step, step}
 
 -- ---- what the cases stand on
 
--- the mounts: the paper's; the same aggregated, with block 512, and with zone 4 read-only, for small runs (`Runs.antt`)
+-- the mounts: the paper's; the same aggregated; with zone 4 full, for 02; and with block 512 and with zone 4 read-only, for small runs
+-- (`Runs.antt`)
 pub data Setting : Type 0 where
   paper : Setting
   aggregated : Setting
   block512 : Setting
   zone4ReadOnly : Setting
+  zone4Full : Setting
 
 abbrev pub blockIn : Setting → ℕ
 blockIn paper = 4096
 blockIn aggregated = 4096
 blockIn block512 = 512
 blockIn zone4ReadOnly = 4096
+blockIn zone4Full = 4096
 
 abbrev pub aggregates : Setting → Bool
 aggregates paper = false
 aggregates aggregated = true
 aggregates block512 = false
 aggregates zone4ReadOnly = false
-
--- the condition byte of zone 4: empty, or read-only
-abbrev pub lastCondition : Setting → ℕ
-lastCondition paper = 1
-lastCondition aggregated = 1
-lastCondition block512 = 1
-lastCondition zone4ReadOnly = 13
+aggregates zone4Full = false
 
 -- the zone of a number: its type, its condition, its capacity and its pointer
 abbrev pub zone : ℕ → ℕ → ℕ → ℕ → ℕ → Zone
 zone number kind condition capacity pointer =
     record { start = number * 524288; length = 524288; pointer = pointer; kind = kind; condition = condition; capacity = capacity }
+
+-- zone 4: empty, read-only, or full, "a condition 14 with pointer 0"
+abbrev pub lastZone : Setting → Zone
+lastZone paper = zone 4 2 1 393216 2097152
+lastZone aggregated = zone 4 2 1 393216 2097152
+lastZone block512 = zone 4 2 1 393216 2097152
+lastZone zone4ReadOnly = zone 4 2 13 393216 2097152
+lastZone zone4Full = zone 4 2 14 393216 0
 
 unfoldable pub report : Setting → List ℕ
 report x =
@@ -63,7 +68,7 @@ report x =
     ∷ zone 1 1 0 524288 0
     ∷ zone 2 1 0 524288 0
     ∷ zone 3 2 2 393216 1572872
-    ∷ zone 4 2 (lastCondition x) 393216 2097152
+    ∷ lastZone x
     ∷ [])
 
 -- the last four bytes of the uuid, chosen such that the checksum's register is 0 where the zeros begin: so is the checksum then, and
@@ -125,8 +130,8 @@ failedWrite o r = numbered (failedBy o r .reply) ++ (sizeIn (failedBy o r .state
 -- ---- the table
 
 -- a write's command is kind 1 at the byte address 1572864 × 512 + 4096, a read's kind 0 at 1572864 × 512
-unfoldable pub casesOf : Mounting → Mounting → List Case
-casesOf plain joined =
+unfoldable pub casesOf : Mounting → Mounting → Mounting → List Case
+casesOf plain joined filled =
     -- "cnv has 2 files of 268435456; aggregated, 1 of 536870912. seq/0 is 4096, seq/1 is 0."
     is (mountedFiles plain) (0 ∷ 2 ∷ 2 ∷ [])
     ∷ is (sizeIn (plain .cnv) 0 ∷ sizeIn (plain .cnv) 1 ∷ []) (268435456 ∷ 268435456 ∷ [])
@@ -145,10 +150,14 @@ casesOf plain joined =
     -- "write 8192 at 4096 fails, pointer 1572880: 7, size 8192. Same with condition 13: size 4096, access read."
     ∷ is (failedWrite plain (zone 3 2 2 393216 1572880)) (7 ∷ 8192 ∷ 8192 ∷ 2 ∷ [])
     ∷ is (failedWrite plain (zone 3 2 13 393216 1572880)) (7 ∷ 4096 ∷ 4096 ∷ 1 ∷ [])
+    -- 02: "A condition 14 with pointer 0 joins the starred cases.", at mount, where seq/1 is 201326592, and in the record of that write
+    ∷ is (mountedFiles filled) (0 ∷ 2 ∷ 2 ∷ [])
+    ∷ is (sizeIn (filled .seq) 1 ∷ []) (201326592 ∷ [])
+    ∷ is (failedWrite plain (zone 3 2 14 393216 0)) (7 ∷ 201326592 ∷ 201326592 ∷ 2 ∷ [])
     ∷ []
 
 abbrev pub cases : List Case
-cases = casesOf (mountUnder paper Repair) (mountUnder aggregated Repair)
+cases = casesOf (mountUnder paper Repair) (mountUnder aggregated Repair) (mountUnder zone4Full Repair)
 
 -- THE CLAIM: each case gives what the paper says.
 unfoldable pub Starred : Type 0

@@ -26,7 +26,7 @@ use Rattle.engine.specs.Engine as engine
 use Rattle.disk.specs.Disk.{DiskZone, Harm, none, toReadOnly, toOffline, Mishap, Choice, reported}
 use Rattle.consistency.specs.System.{System, Event, call, mishap, doing, stray, digested, step, run, allTruthful, mounted, zoneOf, historyOf}
 use Rattle.consistency.specs.Demand.{Start}
-use Rattle.consistency.specs.Cases.{Setting, paper, aggregated, block512, zone4ReadOnly, blockIn, aggregates, zone, report, superblock, lent, optionText, mountUnder, sizeIn, accessIn}
+use Rattle.consistency.specs.Cases.{Setting, paper, aggregated, block512, zone4ReadOnly, zone4Full, blockIn, aggregates, zone, report, superblock, lent, optionText, mountUnder, sizeIn, accessIn}
 
 -- ---- the disk of each setting
 
@@ -34,11 +34,13 @@ abbrev pub zoneThere : ℕ → FileKind → ℕ → ℕ → Condition → DiskZo
 zoneThere number kind capacity pointer condition =
     record { kind = kind; start = number * 524288; length = 524288; capacity = capacity; pointer = pointer; condition = condition }
 
-abbrev pub lastThere : Setting → Condition
-lastThere paper = Healthy
-lastThere aggregated = Healthy
-lastThere block512 = Healthy
-lastThere zone4ReadOnly = ReadOnly
+-- zone 4: empty, read-only, or full, and then its pointer stands at start+capacity, whatever it reports
+abbrev pub lastThere : Setting → DiskZone
+lastThere paper = zoneThere 4 Sequential 393216 2097152 Healthy
+lastThere aggregated = zoneThere 4 Sequential 393216 2097152 Healthy
+lastThere block512 = zoneThere 4 Sequential 393216 2097152 Healthy
+lastThere zone4ReadOnly = zoneThere 4 Sequential 393216 2097152 ReadOnly
+lastThere zone4Full = zoneThere 4 Sequential 393216 2490368 Healthy
 
 unfoldable pub disk : Setting → List DiskZone
 disk x =
@@ -46,14 +48,17 @@ disk x =
     ∷ zoneThere 1 Conventional 524288 0 Healthy
     ∷ zoneThere 2 Conventional 524288 0 Healthy
     ∷ zoneThere 3 Sequential 393216 1572872 Healthy
-    ∷ zoneThere 4 Sequential 393216 2097152 (lastThere x)
+    ∷ lastThere x
     ∷ []
 
 -- ---- events
 
--- a call on seq/0, and one on cnv/0
+-- a call on seq/0, one on seq/1, and one on cnv/0
 abbrev pub seq0 : Call → Event
 seq0 x = call (kindCode Sequential) 0 x
+
+abbrev pub seq1 : Call → Event
+seq1 x = call (kindCode Sequential) 1 x
 
 abbrev pub cnv0 : Call → Event
 cnv0 x = call (kindCode Conventional) 0 x
@@ -96,9 +101,12 @@ failing lands e = record { fails = true; lands = lands; mishap = e }
 abbrev pub fails : ℕ → Mishap → Zone → Event
 fails lands e r = doing (failing lands e) true (encodeZone r)
 
--- a record of zone 3: type, condition and pointer
+-- a record of zone 3, and one of zone 4: type, condition and pointer
 abbrev pub zone3 : ℕ → ℕ → ℕ → Zone
 zone3 kind condition pointer = zone 3 kind condition 393216 pointer
+
+abbrev pub zone4 : ℕ → ℕ → ℕ → Zone
+zone4 kind condition pointer = zone 4 kind condition 393216 pointer
 
 -- ---- what is seen of a run
 
@@ -224,6 +232,30 @@ module _ (under : Setting → ErrorPolicy → Mounting) where
       ∷ on0 ZoneRo (write ∷ fails 1 (falls 0) (zone3 2 2 1572880) ∷ []) (0 ∷ 7 ∷ []) (8192 ∷ 1 ∷ 8192 ∷ 2 ∷ 1 ∷ 8192 ∷ 0 ∷ [])
       ∷ []
 
+  -- seq/1 of the mount whose zone 4 is full, under an option
+  abbrev pub on1 : ErrorPolicy → List Event → List ℕ → List ℕ → Case
+  on1 p events answers seen = is (seenOf (seqSeen 1) (startIn zone4Full p) events) (truly answers seen)
+
+  -- 02: full zones
+  unfoldable pub fullRuns : List Case
+  fullRuns =
+      -- "the size is the capacity, at mount"
+      on1 Repair [] [] (201326592 ∷ 2 ∷ 201326592 ∷ 2 ∷ 1 ∷ 201326592 ∷ 0 ∷ [])
+      -- ".. and in a completion's record", whatever its pointer is: where the last block landed, or the file had the size already
+      ∷ on0 Repair (seq0 (Call.Write 4096 201322496) ∷ fails 49151 (falls 0) (zone3 2 14 0) ∷ []) (0 ∷ 7 ∷ []) (201326592 ∷ 2 ∷ 201326592 ∷ 2 ∷ 1 ∷ 201326592 ∷ 0 ∷ [])
+      ∷ on1 ZoneRo (seq1 Call.Flush ∷ fails 0 (falls 0) (zone4 3 14 18446744073709551615) ∷ []) (0 ∷ 7 ∷ []) (201326592 ∷ 1 ∷ 201326592 ∷ 2 ∷ 1 ∷ 201326592 ∷ 0 ∷ [])
+      -- ".. also in a failed read's test": nothing is lost, and nothing recovered
+      ∷ on1 ZoneRo (seq1 (Call.Read 0 4096) ∷ fails 0 (falls 0) (zone4 2 14 0) ∷ []) (0 ∷ 7 ∷ []) (201326592 ∷ 2 ∷ 201326592 ∷ 2 ∷ 1 ∷ 201326592 ∷ 0 ∷ [])
+      -- "a full zone's pointer stands at start+capacity, and a mishap moves it from there"
+      ∷ on1 Repair (mishap 4 (falls 1) ∷ []) [] (201326592 ∷ 2 ∷ 201322496 ∷ 2 ∷ 0 ∷ 201326592 ∷ 0 ∷ [])
+      ∷ on1 Repair (mishap 4 (falls 1) ∷ seq1 Call.Flush ∷ tries (zone4 2 2 2490360) ∷ []) (0 ∷ 7 ∷ []) (201322496 ∷ 2 ∷ 201322496 ∷ 2 ∷ 1 ∷ 201322496 ∷ 0 ∷ [])
+      -- "any pointer while full": from then on it is full no more, and a record that says it is isn't truthful
+      ∷ is (seenOf (seqSeen 1) (startIn zone4Full Repair) (mishap 4 (falls 1) ∷ seq1 Call.Flush ∷ tries (zone4 2 14 2490360) ∷ []))
+      (0 ∷ 0 ∷ 7 ∷ 201326592 ∷ 2 ∷ 201322496 ∷ 2 ∷ 1 ∷ 201322496 ∷ 0 ∷ [])
+      -- and once reset it is written like any other
+      ∷ on1 Repair (seq1 (Call.Truncate 0) ∷ done ∷ seq1 (Call.Write 0 4096) ∷ done ∷ []) (0 ∷ 0 ∷ 0 ∷ 0 ∷ []) (4096 ∷ 2 ∷ 4096 ∷ 2 ∷ 1 ∷ 4096 ∷ 0 ∷ [])
+      ∷ []
+
   -- other files, and other mounts
   unfoldable pub otherRuns : List Case
   otherRuns =
@@ -252,4 +284,5 @@ pub record Runs : Type 0 where
   pub commands : AsStated (commandRuns mountUnder)
   pub mishaps : AsStated (mishapRuns mountUnder)
   pub exceptions : AsStated (exceptionRuns mountUnder)
+  pub full : AsStated (fullRuns mountUnder)
   pub others : AsStated (otherRuns mountUnder)

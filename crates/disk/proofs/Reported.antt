@@ -3,7 +3,7 @@
 use mathlib.Core.Bool.{Bool, true, false, cond}
 use mathlib.Core.List.{List, [], _∷_, map, append-nil}
 use mathlib.Core.Path.{_≡_, refl, sym, ap, _∙_, subst}
-use Prim.Native.Nat.{ℕ, zero, suc, _+_, _≤_, _<_}
+use Prim.Native.Nat.{ℕ, zero, suc, _≤_, _<_}
 use native.Mathlib.Omega.{arith}
 use lib.Dec.{eqb}
 use lib.ListN.{length, getD, length-map}
@@ -16,7 +16,7 @@ use Rattle.zones.specs.declared.Zone.{Zone}
 use Rattle.zones.specs.Zone.{zoneAt}
 use Rattle.zones.proofs.Encoded.{ReadBack, read-back, more-bytes, Bytes, record-bytes, byte-at}
 use Rattle.report.proofs.Encoded.{AllReadBack, ByteKinds, encoded-header, encoded-zones, encoded-bytes}
-use Rattle.disk.specs.Disk.{DiskZone, noZone, typeByte, healthyByte, conditionByte, reported, diskRecord, diskReport}
+use Rattle.disk.specs.Disk.{DiskZone, isFull, noZone, typeByte, healthyByte, conditionByte, reported, diskRecord, diskReport}
 use Rattle.disk.specs.Facts.{ShowsZone, ShowsRecord, ShowsZones, Shows}
 use Rattle.disk.specs.Facts as shows
 use Rattle.disk.proofs.SoundZone.{SoundZone, kind-shown, reported-shows}
@@ -35,7 +35,9 @@ back-shows {z = z} {r = r} s k =
       start = k .start (omega (arith, w .start, s .ends)) ∙ w .start;
       length = k .length (omega (arith, w .length, s .ends)) ∙ w .length;
       capacity = k .capacity (omega (arith, w .capacity, s .within, s .ends)) ∙ w .capacity;
-      pointer = λ q c. k .pointer (omega (arith, w .pointer q c, s .point q c, s .within, s .ends)) ∙ w .pointer q c;
+      pointer = λ q c f.
+          let p = w .pointer q c (ap (λ n. eqb n 14) (sym (k .condition)) ∙ f) in
+          k .pointer (omega (arith, p, s .point q c, s .within, s .ends)) ∙ p;
       condition = rw (k .condition) (w .condition);
     }
 
@@ -83,7 +85,7 @@ condition-small Healthy z = by (z .kind)
 
     by : (k : FileKind) → healthyByte k z < 256
     by Conventional = omega arith
-    by Sequential = at (eqb (z .pointer) (z .start)) (eqb (z .pointer) (z .start + z .capacity))
+    by Sequential = at (eqb (z .pointer) (z .start)) (isFull z)
 condition-small ReadOnly z = omega arith
 condition-small Offline z = omega arith
 

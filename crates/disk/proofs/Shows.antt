@@ -1,16 +1,16 @@
 -- The tests of what is shown, and what they tell, in both directions.
 -- Assumes nothing.
-use mathlib.Core.Bool.{Bool, true, false, not, _||_, false≢true}
+use mathlib.Core.Bool.{Bool, true, false, not, _&&_, _||_, false≢true}
 use mathlib.Core.List.{List, [], _∷_}
 use mathlib.Core.Path.{_≡_, refl}
 use Prim.Native.Nat.{ℕ}
 use lib.Dec.{eqb}
 use lib.ListN.{length}
-use borrow.Author.Tests.{eqb-true, eq-eqb}
+use borrow.Author.Tests.{eqb-true, eq-eqb, not-true}
 use Rattle.types.specs.Predicates.{isHealthy}
 use Rattle.types.proofs.Tests.{both, and-left, and-right, means-in, means-out}
 use Rattle.zones.specs.declared.Zone.{Zone}
-use Rattle.zones.specs.Zone.{zoneBytes}
+use Rattle.zones.specs.Zone.{zoneBytes, full}
 use Rattle.report.specs.Report.{goodHeader, zonesOf}
 use Rattle.disk.specs.Disk.{DiskZone, hasPointer}
 use Rattle.disk.specs.Shows.{showsKind, showsCondition, showsZone, showsRecord, showsZones, shows}
@@ -25,14 +25,14 @@ module _ {r : Zone} {z : DiskZone} where
       let start : eqb (r .start) (z .start) ≡ true = search (and-left, and-right) depth 9 in
       let length : eqb (r .length) (z .length) ≡ true = search (and-left, and-right) depth 9 in
       let capacity : eqb (r .capacity) (z .capacity) ≡ true = search (and-left, and-right) depth 9 in
-      let pointer : not (hasPointer z) || eqb (r .pointer) (z .pointer) ≡ true = search (and-left, and-right) depth 9 in
+      let pointer : not (hasPointer z && not (full r)) || eqb (r .pointer) (z .pointer) ≡ true = search (and-left, and-right) depth 9 in
       let condition : showsCondition (z .condition) z (r .condition) ≡ true = search (and-left, and-right) depth 9 in
       record {
         kind = kind;
         start = eqb-true _ _ start;
         length = eqb-true _ _ length;
         capacity = eqb-true _ _ capacity;
-        pointer = λ k c. eqb-true _ _ (means-out (hasPointer z) _ pointer (rw (k, c)));
+        pointer = λ k c f. eqb-true _ _ (means-out (hasPointer z && not (full r)) _ pointer (rw (k, c, f)));
         condition = condition;
       }
 
@@ -40,8 +40,15 @@ module _ {r : Zone} {z : DiskZone} where
   unfolding showsZone
   zone-shows w =
       both (both (both (w .kind) (both (both (eq-eqb _ _ (w .start)) (eq-eqb _ _ (w .length))) (eq-eqb _ _ (w .capacity))))
-      (means-in (hasPointer z) _ (λ h. eq-eqb _ _ (w .pointer (sequential-is (z .kind) (and-right (isHealthy (z .condition)) _ h)) (healthy-is (z .condition) (and-left _ _ h))))))
+      (means-in (hasPointer z && not (full r)) _ points))
       (w .condition)
+    where
+      points : hasPointer z && not (full r) ≡ true → eqb (r .pointer) (z .pointer) ≡ true
+      points h =
+          let p = and-left (hasPointer z) _ h in
+          let kind = sequential-is (z .kind) (and-right (isHealthy (z .condition)) _ p) in
+          let condition = healthy-is (z .condition) (and-left _ _ p) in
+          eq-eqb _ _ (w .pointer kind condition (not-true (full r) (and-right (hasPointer z) _ h)))
 
 pub zones-told : (rs : List Zone) (zs : List DiskZone) → showsZones rs zs ≡ true → ShowsZones rs zs
 unfolding showsZones

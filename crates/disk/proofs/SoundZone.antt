@@ -5,23 +5,23 @@ use mathlib.Core.Path.{_≡_, refl, sym, ap, _∙_, subst}
 use Prim.Native.Nat.{ℕ, _+_, _/_, _%_, _^_, _≤_, _<_}
 use native.Mathlib.Omega.{arith}
 use lib.Dec.{leb, ltb, eqb}
-use borrow.Author.Tests.{leb-true, ltb-true, eqb-true, eqb-false, le-leb, lt-ltb, eq-eqb}
+use borrow.Author.Tests.{leb-true, ltb-true, eqb-true, eqb-false, le-leb, lt-ltb, eq-eqb, not-true}
 use Rattle.types.specs.declared.FileKind.{FileKind}
 use Rattle.types.specs.declared.FileKind.the-variants.{Conventional, Sequential}
 use Rattle.types.specs.declared.Condition.{Condition}
 use Rattle.types.specs.declared.Condition.the-variants.{Healthy, ReadOnly, Offline}
 use Rattle.types.specs.Kinds.{ofKind}
 use Rattle.types.specs.Predicates.{isConventional, isHealthy}
-use Rattle.types.proofs.Tests.{both, and-left, and-right, means-in, means-out}
+use Rattle.types.proofs.Tests.{both, and-left, and-right, cases, means-in, means-out}
 use Rattle.types.proofs.Blocks.{IsBlock}
 use Rattle.types.proofs.PredicateLaws.{conventional-is}
 use Rattle.zones.specs.declared.Zone.{Zone}
-use Rattle.zones.specs.Zone.{conventional, sequential, healthy, conditionOf, conventionalCondition, sequentialCondition, pointsWell, goodRecord}
-use Rattle.zones.proofs.Laws.{GoodRecord, record-told}
-use Rattle.disk.specs.Disk.{DiskZone, Mishap, moved, struck, reported, typeByte, healthyByte, conditionByte}
+use Rattle.zones.specs.Zone.{conventional, sequential, healthy, conditionOf, full, conventionalCondition, sequentialCondition, saysSize, pointed, pointsWell, goodPointer, goodRecord}
+use Rattle.zones.proofs.Laws.{GoodRecord, record-told, well-pointed}
+use Rattle.disk.specs.Disk.{DiskZone, isFull, Mishap, moved, struck, reported, typeByte, healthyByte, conditionByte}
 use Rattle.disk.specs.Shows.{showsKind, showsHealthy, showsCondition}
 use Rattle.disk.specs.Facts.{ShowsZone}
-use Rattle.disk.proofs.Whole.{At, at-fall}
+use Rattle.disk.proofs.Whole.{At, at-end, at-fall}
 use Rattle.disk.proofs.Conditions.{healthy-is, sequential-is, healthy-before}
 
 -- what good input says of a zone
@@ -81,7 +81,7 @@ conditionFrom n = cond (eqb n 13) ReadOnly (cond (eqb n 15) Offline Healthy)
 
 condition-healthy : (k : FileKind) (z : DiskZone) (n : ℕ) → showsHealthy k z n ≡ true → (conditionFrom n ≡ Healthy) × (cond (isConventional k) (conventionalCondition n) (sequentialCondition n) ≡ true)
 condition-healthy Conventional z n e = let q = eqb-true n 0 e in (rw q, rw q)
-condition-healthy Sequential z n e = by (byte-of n (eqb (z .pointer) (z .start + z .capacity)) e)
+condition-healthy Sequential z n e = by (byte-of n (isFull z) e)
   where
     by : {full : Bool} {n : ℕ} → Byte full n → (conditionFrom n ≡ Healthy) × (sequentialCondition n ≡ true)
     by one = (refl, refl)
@@ -101,9 +101,9 @@ condition-by k ReadOnly z n q e = let d = eqb-true n 13 e in (rw d, rw d (unheal
 condition-by k Offline z n q e = let d = eqb-true n 15 e in (rw d, rw d (unhealthy-byte k .1))
 
 -- the end of a full zone
-full-by : (k : FileKind) (z : DiskZone) (n : ℕ) → k ≡ Sequential → showsHealthy k z n ≡ true → not (eqb n 14) || eqb (z .pointer) (z .start + z .capacity) ≡ true
+full-by : (k : FileKind) (z : DiskZone) (n : ℕ) → k ≡ Sequential → showsHealthy k z n ≡ true → not (eqb n 14) || isFull z ≡ true
 full-by Conventional z n q e = let x : _≡_ {A = ℕ} 0 1 = cc in absurd (omega arith)
-full-by Sequential z n q e = by (byte-of n (eqb (z .pointer) (z .start + z .capacity)) e)
+full-by Sequential z n q e = by (byte-of n (isFull z) e)
   where
     by : {full : Bool} {n : ℕ} → Byte full n → not (eqb n 14) || full ≡ true
     by one = refl
@@ -128,10 +128,11 @@ module _ {r : Zone} {z : DiskZone} (w : ShowsZone r z) where
   says-good : cond (isConventional (z .kind)) (conventionalCondition (r .condition)) (sequentialCondition (r .condition)) ≡ true
   says-good = condition-by (z .kind) (z .condition) z (r .condition) refl (w .condition) .1
 
-  says-full : z .kind ≡ Sequential → z .condition ≡ Healthy → not (eqb (r .condition) 14) || eqb (z .pointer) (z .start + z .capacity) ≡ true
-  says-full k c =
+  -- a record says that its zone is full only where the pointer stands at the end
+  pub says-full : z .kind ≡ Sequential → z .condition ≡ Healthy → full r ≡ true → z .pointer ≡ z .start + z .capacity
+  says-full k c f =
       let e : showsCondition Healthy z (r .condition) ≡ true = subst (λ x. showsCondition x z (r .condition) ≡ true) c (w .condition) in
-      full-by (z .kind) z (r .condition) k e
+      eqb-true _ _ (means-out (full r) (isFull z) (full-by (z .kind) z (r .condition) k e) f)
 
 -- ---- GOOD INPUT
 
@@ -151,25 +152,25 @@ record-good {b} {r} {z} w s = good-made (record {
   end = le-leb (r .start + r .length) (2 ^ 40) (omega (arith, w .start, w .length, s .ends));
   kind = rw (says-conventional w, says-sequential w) (or-not-self (isConventional (z .kind)));
   condition = rw (says-conventional w) (says-good w);
-  pointer = means-in (sequential r && healthy r) _ (λ e. points (and-left _ (healthy r) e) (and-right (sequential r) _ e));
+  pointer = means-in (pointed r) _ points;
 })
   where
     flat : conventional r ≡ true → eqb (r .capacity) (r .length) ≡ true
     flat e = let q = s .flat (conventional-is (z .kind) (sym (says-conventional w) ∙ e)) in eq-eqb (r .capacity) (r .length) (omega (arith, w .capacity, w .length, q))
 
-    points : sequential r ≡ true → healthy r ≡ true → pointsWell (b / 512) r ≡ true
-    points e h =
-        let k : z .kind ≡ Sequential = sequential-is (z .kind) (sym (says-sequential w) ∙ e) in
-        let c : z .condition ≡ Healthy = healthy-is (z .condition) (sym (says-healthy w) ∙ h) in
-        let p = w .pointer k c in
+    points : pointed r ≡ true → pointsWell (b / 512) r ≡ true
+    points e =
+        let h = and-left (saysSize r) _ e in
+        let k : z .kind ≡ Sequential = sequential-is (z .kind) (sym (says-sequential w) ∙ and-left (sequential r) _ h) in
+        let c : z .condition ≡ Healthy = healthy-is (z .condition) (sym (says-healthy w) ∙ and-right (sequential r) _ h) in
+        let p = w .pointer k c (not-true (full r) (and-right (saysSize r) _ e)) in
         let at = s .point k c in
-        let f : eqb (r .pointer) (r .start + r .capacity) ≡ eqb (z .pointer) (z .start + z .capacity) = rw (p, w .start, w .capacity) in
-        both (both (both (le-leb (r .start) (r .pointer) (omega (arith, p, w .start, at .low))) (le-leb (r .pointer) (r .start + r .capacity) (omega (arith, p, w .start, w .capacity, at .high))))
-        (eq-eqb _ _ (ap (λ n. n % (b / 512)) p ∙ at .whole))) (rw f (says-full w k c))
+        both (both (le-leb (r .start) (r .pointer) (omega (arith, p, w .start, at .low))) (le-leb (r .pointer) (r .start + r .capacity) (omega (arith, p, w .start, w .capacity, at .high))))
+        (eq-eqb _ _ (ap (λ n. n % (b / 512)) p ∙ at .whole))
 
 -- and a zone that shows a good record is good input
-pub sound-of : {b : ℕ} {r : Zone} {z : DiskZone} → ShowsZone r z → goodRecord (b / 512) r ≡ true → z .start % (b / 512) ≡ 0 → SoundZone b z
-sound-of {b} {r} {z} w g base =
+pub sound-of : {b : ℕ} {r : Zone} {z : DiskZone} → IsBlock b → ShowsZone r z → goodRecord (b / 512) r ≡ true → z .start % (b / 512) ≡ 0 → SoundZone b z
+sound-of {b} {r} {z} block w g base =
     let t = record-told (b / 512) r g in
     let long : ltb 0 (r .length) ≡ true = and-left _ _ (t .length) in
     let spans : eqb (r .length % (b / 512)) 0 ≡ true = search (and-left, and-right, t .length) depth 9 in
@@ -182,7 +183,7 @@ sound-of {b} {r} {z} w g base =
       long = omega (arith, w .length, ltb-true 0 (r .length) long);
       spans = ap (λ n. n % (b / 512)) (sym (w .length)) ∙ eqb-true _ _ spans;
       some = omega (arith, w .capacity, ltb-true 0 (r .capacity) some);
-      whole = ap (λ n. n % (b / 512)) (sym (w .capacity)) ∙ eqb-true _ _ whole;
+      whole = roomy whole;
       within = omega (arith, w .length, w .capacity, leb-true (r .capacity) (r .length) within);
       ends = omega (arith, w .start, w .length, leb-true (r .start + r .length) (2 ^ 40) (t .end));
       flat = λ k.
@@ -190,19 +191,24 @@ sound-of {b} {r} {z} w g base =
           let e : eqb (r .capacity) (r .length) ≡ true = rw c at flat in
           sym (w .capacity) ∙ eqb-true _ _ e ∙ w .length;
       point = λ k c.
-          let p = w .pointer k c in
-          let q : sequential r ≡ true = says-sequential w ∙ ap (λ x. not (isConventional x)) k in
-          let h : healthy r ≡ true = says-healthy w ∙ ap isHealthy c in
-          let e : pointsWell (b / 512) r ≡ true = means-out (sequential r && healthy r) _ (t .pointer) (both q h) in
-          let low : leb (r .start) (r .pointer) ≡ true = search (and-left, and-right) depth 9 in
-          let high : leb (r .pointer) (r .start + r .capacity) ≡ true = search (and-left, and-right) depth 9 in
-          let on : eqb (r .pointer % (b / 512)) 0 ≡ true = search (and-left, and-right) depth 9 in
-          record {
-            low = omega (arith, p, w .start, leb-true (r .start) (r .pointer) low);
-            high = omega (arith, p, w .start, w .capacity, leb-true (r .pointer) (r .start + r .capacity) high);
-            whole = ap (λ n. n % (b / 512)) (sym p) ∙ eqb-true _ _ on;
-          };
+          cases (full r) (λ f. subst (At b z) (sym (says-full w k c f)) (at-end block z base (roomy whole))) (pointed-at (t .pointer) k c);
     }
+  where
+    roomy : eqb (r .capacity % (b / 512)) 0 ≡ true → z .capacity % (b / 512) ≡ 0
+    roomy e = ap (λ n. n % (b / 512)) (sym (w .capacity)) ∙ eqb-true _ _ e
+
+    -- where the record isn't that of a full zone, the pointer is its pointer
+    pointed-at : goodPointer (b / 512) r ≡ true → z .kind ≡ Sequential → z .condition ≡ Healthy → full r ≡ false → At b z (z .pointer)
+    pointed-at good k c f =
+        let p = w .pointer k c f in
+        let q : sequential r ≡ true = says-sequential w ∙ ap (λ x. not (isConventional x)) k in
+        let h : healthy r ≡ true = says-healthy w ∙ ap isHealthy c in
+        let well = well-pointed (b / 512) r good (both (both q h) (ap not f)) in
+        record {
+          low = omega (arith, p, w .start, well .at .low);
+          high = omega (arith, p, w .start, w .capacity, well .at .high);
+          whole = ap (λ n. n % (b / 512)) (sym p) ∙ well .whole;
+        }
 
 -- ---- THE DISK'S OWN RECORD shows the zone.
 pub kind-shown : (k : FileKind) (r : Zone) → r .kind ≡ typeByte k → showsKind k r ≡ true
@@ -211,7 +217,7 @@ kind-shown Sequential r e = rw e
 
 reported-healthy : (k : FileKind) (z : DiskZone) → showsHealthy k z (healthyByte k z) ≡ true
 reported-healthy Conventional z = refl
-reported-healthy Sequential z = by (eqb (z .pointer) (z .start)) (eqb (z .pointer) (z .start + z .capacity))
+reported-healthy Sequential z = by (eqb (z .pointer) (z .start)) (isFull z)
   where
     by : (s t : Bool) → leb 1 (cond s 1 (cond t 14 2)) && leb (cond s 1 (cond t 14 2)) 4 || eqb (cond s 1 (cond t 14 2)) 14 && t ≡ true
     by true t = refl
@@ -230,7 +236,7 @@ reported-shows z = record {
   start = refl;
   length = refl;
   capacity = refl;
-  pointer = λ k c. refl;
+  pointer = λ k c f. refl;
   condition = reported-condition (z .condition) z;
 }
 

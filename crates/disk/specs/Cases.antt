@@ -115,6 +115,8 @@ mishapCases =
     is (fallenFrom 824 1) (816 ∷ 0 ∷ [])
     ∷ is (fallenFrom 824 2) (808 ∷ 0 ∷ [])
     ∷ is (fallenFrom 824 9) (800 ∷ 0 ∷ [])
+    -- 02: "a full zone's pointer stands at start+capacity, and a mishap moves it from there"
+    ∷ is (fallenFrom 1440 1) (1432 ∷ 0 ∷ [])
     -- "or the condition worsens; nothing betters it."
     ∷ is (harmed Healthy none) (808 ∷ 0 ∷ [])
     ∷ is (harmed Healthy toReadOnly) (808 ∷ 1 ∷ [])
@@ -141,6 +143,7 @@ reportCases =
     ∷ is (shown 2 2 808 (seqZone 808 Healthy)) (1 ∷ [])
     ∷ is (shown 3 4 808 (seqZone 808 Healthy)) (1 ∷ [])
     ∷ is (shown 3 14 1440 (seqZone 1440 Healthy)) (1 ∷ [])
+    ∷ is (shown 2 4 1440 (seqZone 1440 Healthy)) (1 ∷ [])
     ∷ is (shown 2 13 5 (seqZone 808 ReadOnly)) (1 ∷ [])
     ∷ is (shown 1 0 5 (zoneWith Conventional 0 Healthy)) (1 ∷ [])
     ∷ is (shown 2 0 0 (zoneWith Conventional 0 Healthy)) (0 ∷ [])
@@ -157,6 +160,12 @@ reportCases =
     ∷ is (shown 2 13 808 (seqZone 808 Healthy)) (0 ∷ [])
     ∷ is (shown 2 13 808 (seqZone 808 Offline)) (0 ∷ [])
     ∷ is (shown 2 2 808 (seqZone 808 ReadOnly)) (0 ∷ [])
+    -- 02: "but the zone may report any pointer while full"; it is full at start+capacity and nowhere else, and reports it by condition 14
+    ∷ is (shown 2 14 0 (seqZone 1440 Healthy)) (1 ∷ [])
+    ∷ is (shown 3 14 18446744073709551615 (seqZone 1440 Healthy)) (1 ∷ [])
+    ∷ is (shown 2 14 1440 (seqZone 1432 Healthy)) (0 ∷ [])
+    ∷ is (shown 2 4 0 (seqZone 1440 Healthy)) (0 ∷ [])
+    ∷ is (shown 2 13 0 (seqZone 1440 Healthy)) (0 ∷ [])
     -- "the zone at its address"
     ∷ is (map (λ (n : ℕ). zoneHolding (record { kind = Conventional; start = 0; length = 800; capacity = 800; pointer = 0; condition = Healthy } ∷ seqZone 800 Healthy ∷ []) (bytesOf n)) (0 ∷ 799 ∷ 800 ∷ 1439 ∷ []))
     (0 ∷ 0 ∷ 1 ∷ 1 ∷ [])

@@ -31,6 +31,10 @@ pub record DiskZone : Type 0 where
 abbrev pub hasPointer : DiskZone → Bool
 hasPointer z = isHealthy (z .condition) && not (isConventional (z .kind))
 
+-- 02: "a full zone's pointer stands at start+capacity"
+abbrev pub isFull : DiskZone → Bool
+isFull z = eqb (z .pointer) (z .start + z .capacity)
+
 -- the zone with another pointer and condition: nothing else ever moves
 unfoldable pub moved : DiskZone → ℕ → Condition → DiskZone
 moved z pointer condition =
@@ -66,7 +70,8 @@ pub record Mishap : Type 0 where
   pub blocks : ℕ
   pub harm : Harm
 
--- "the pointer falls back by whole blocks, at most to start" (a pointer below the start, which only a zone has whose pointer means nothing, stays)
+-- "the pointer falls back by whole blocks, at most to start" (a pointer below the start, which only a zone has whose pointer means nothing, stays);
+-- of a full zone "a mishap moves it from there", the end
 abbrev pub fallen : ℕ → DiskZone → ℕ → ℕ → ℕ
 fallen b z pointer blocks = max (min pointer (z .start)) (pointer - blocks * blockSectors b)
 
@@ -148,7 +153,7 @@ typeByte Sequential = 2
 -- "A healthy sequential zone's condition follows: 1 at start, 14 at the end, else 2; a healthy conventional one's stays 0."
 abbrev pub healthyByte : FileKind → DiskZone → ℕ
 healthyByte Conventional z = 0
-healthyByte Sequential z = cond (eqb (z .pointer) (z .start)) 1 (cond (eqb (z .pointer) (z .start + z .capacity)) 14 2)
+healthyByte Sequential z = cond (eqb (z .pointer) (z .start)) 1 (cond (isFull z) 14 2)
 
 -- "Condition 13 is read-only, 15 offline"
 abbrev pub conditionByte : Condition → DiskZone → ℕ

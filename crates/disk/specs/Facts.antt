@@ -1,5 +1,5 @@
 -- What it tells that a record or a report shows the disk, clause by clause. No outcome is defined here.
-use mathlib.Core.Bool.{Bool, true}
+use mathlib.Core.Bool.{Bool, true, false}
 use mathlib.Core.List.{List, [], _∷_}
 use mathlib.Core.Path.{_≡_}
 use Prim.Native.Nat.{ℕ}
@@ -7,7 +7,7 @@ use lib.ListN.{length}
 use Rattle.types.specs.declared.FileKind.the-variants.{Sequential}
 use Rattle.types.specs.declared.Condition.the-variants.{Healthy}
 use Rattle.zones.specs.declared.Zone.{Zone}
-use Rattle.zones.specs.Zone.{zoneBytes, zoneAt}
+use Rattle.zones.specs.Zone.{zoneBytes, zoneAt, full}
 use Rattle.report.specs.Report.{goodHeader, zonesOf}
 use Rattle.disk.specs.Disk.{DiskZone}
 use Rattle.disk.specs.Shows.{showsKind, showsCondition}
@@ -18,7 +18,7 @@ pub record ShowsZone (r : Zone) (z : DiskZone) : Type 0 where
   pub start : r .start ≡ z .start
   pub length : r .length ≡ z .length
   pub capacity : r .capacity ≡ z .capacity
-  pub pointer : z .kind ≡ Sequential → z .condition ≡ Healthy → r .pointer ≡ z .pointer
+  pub pointer : z .kind ≡ Sequential → z .condition ≡ Healthy → full r ≡ false → r .pointer ≡ z .pointer
   pub condition : showsCondition (z .condition) z (r .condition) ≡ true
 
 -- these bytes are a record, and it shows the zone z

@@ -20,7 +20,7 @@ rowIf false r rs = rs
 
 -- ---- the seq files
 
--- "sequential size = (pointer − start) × 512"
+-- "sequential size = (pointer − start) × 512", and a full zone's its capacity
 abbrev pub seqRow : Zone → Row
 seqRow z = fileRow (healthy z) (z .start) (bytesOf (z .capacity)) (writtenSize z)
 

@@ -39,7 +39,7 @@ fn file_row(healthy: bool, start: u64, capacity: u64, size: u64) -> Row
     }
 }
 
-// The row of a sequential zone. Only a healthy one's pointer is looked at.
+// The row of a sequential zone. Only a healthy one says how much of it is written.
 pub fn seq_row(z: Zone) -> Row
     requires { ⌜ Bounded z × (sequential z ≡ true) ⌝ }
     ensures { λ r. ⌜ r ≡ seqRow z ⌝ }

@@ -1,11 +1,10 @@
--- Check 9, out and in; the size that a good record gives; and the recovery table: what it fixes, and that access never rises.
+-- Check 9, out and in; when a record gives the size; and the recovery table: what it fixes, and that access never rises.
 -- Assumes nothing.
-use Prim.Native.Nat.{ℕ, _+_, _-_, _%_, _≤_}
+use Prim.Native.Nat.{ℕ, _+_, _≤_}
 use native.Mathlib.Omega.{arith}
 use mathlib.Core.Path.{_≡_, refl}
 use mathlib.Core.Bool.{true}
-use lib.Dec.{leb}
-use borrow.Author.Tests.{leb-true, eqb-true, le-leb, eq-eqb}
+use borrow.Author.Tests.{le-leb, eq-eqb}
 use Rattle.types.specs.declared.Row.{Row}
 use Rattle.types.specs.declared.FileKind.{FileKind}
 use Rattle.types.specs.declared.FileKind.the-variants.{Conventional, Sequential}
@@ -15,13 +14,12 @@ use Rattle.types.specs.declared.Access.{Access}
 use Rattle.types.specs.declared.Access.the-variants as access
 use Rattle.types.specs.declared.ErrorPolicy.{ErrorPolicy}
 use Rattle.types.specs.declared.ErrorPolicy.the-variants.{RemountRo, ZoneRo, ZoneOffline, Repair}
-use Rattle.types.specs.Blocks.{bytesOf, blockSectors, onBlock}
+use Rattle.types.specs.Blocks.{bytesOf, blockSectors}
 use Rattle.types.specs.Codes.{accessCode}
-use Rattle.types.proofs.Blocks.{IsBlock, small, large}
-use Rattle.types.proofs.Tests.{both, and-left, and-right, means-out}
+use Rattle.types.proofs.Tests.{both, and-left, and-right}
 use Rattle.zones.specs.declared.Zone.{Zone}
-use Rattle.zones.specs.Zone.{conventional, sequential, conditionOf, healthy, pointed, pointsWell, writtenSize, goodRecord}
-use Rattle.zones.proofs.Laws.{record-told, record-bounded}
+use Rattle.zones.specs.Zone.{conventional, sequential, conditionOf, healthy, goodRecord}
+use Rattle.zones.proofs.Laws.{record-bounded}
 use Rattle.recovery.specs.declared.grid.SizeRule.the-variants.{Fixed}
 use Rattle.recovery.specs.declared.grid.AccessRule.{AccessRule}
 use Rattle.recovery.specs.declared.grid.AccessRule.the-variants as rule
@@ -64,29 +62,7 @@ fitting unit Sequential r z good own =
 
 -- one that is healthy gives the file's size
 pub sizing : (k : FileKind) (z : Zone) → Fitting k z → healthy z ≡ true → Sizing k z
-sizing k z w h = record { bounded = w .bounded; pointing = λ e. both (w .alike e) h }
-
--- and lies on a block, within the capacity
-pub record WellSized (b sectors size : ℕ) : Type 0 where
-  pub blocks : size % b ≡ 0
-  pub within : size ≤ bytesOf sectors
-
-pointer-blocks : {b : ℕ} → IsBlock b → (start p : ℕ) → start % blockSectors b ≡ 0 → p % blockSectors b ≡ 0 → start ≤ p → bytesOf (p - start) % b ≡ 0
-pointer-blocks small start p e f l = omega arith
-pointer-blocks large start p e f l = omega arith
-
-pub written-well : {b : ℕ} → IsBlock b → (z : Zone) → goodRecord (blockSectors b) z ≡ true → z .start % blockSectors b ≡ 0 → pointed z ≡ true
-    → WellSized b (z .capacity) (writtenSize z)
-written-well {b} block z good on p =
-    let w = means-out (pointed z) (pointsWell (blockSectors b) z) (record-told (blockSectors b) z good .pointer) p in
-    let low : leb (z .start) (z .pointer) ≡ true = search (and-left, and-right, w) depth 9 in
-    let high : leb (z .pointer) (z .start + z .capacity) ≡ true = search (and-left, and-right, w) depth 9 in
-    let whole : onBlock (blockSectors b) (z .pointer) ≡ true = search (and-left, and-right, w) depth 9 in
-    let above = leb-true (z .start) (z .pointer) low in
-    record {
-      blocks = pointer-blocks block (z .start) (z .pointer) on (eqb-true _ 0 whole) above;
-      within = omega (arith, above, leb-true (z .pointer) (z .start + z .capacity) high);
-    }
+sizing k z w h = record { bounded = w .bounded; saying = λ e. both (w .alike e) h }
 
 -- THE TABLE
 

@@ -20,14 +20,14 @@ use Rattle.recovery.specs.declared.grid.AccessRule.{AccessRule}
 use Rattle.recovery.specs.declared.grid.AccessRule.the-variants as rule
 use Rattle.recovery.specs.Grid.{recoveryGrid, ruleOf}
 
--- "Fixed: seq by the record's pointer, cnv unchanged."
+-- "Fixed: seq by the record's pointer, cnv unchanged.", where 02 mends what a record of a full zone says
 abbrev pub fixedSize : FileKind → Zone → ℕ → ℕ
 fixedSize Conventional z size = size
 fixedSize Sequential z size = writtenSize z
 
 -- ---- "A failed read with .. recovers nothing."
 
--- "with a healthy record and, for seq, size equal to the pointer"
+-- "with a healthy record and, for seq, size equal to the pointer", which is mended by 02 "also in a failed read's test"
 abbrev pub unharmed : FileKind → Zone → ℕ → Bool
 unharmed k z size = healthy z && eqb size (fixedSize k z size)
 

@@ -29,7 +29,7 @@ fn fixed_size(kind: FileKind, z: Zone, size: u64) -> u64
     }
 }
 
-// A healthy record that tells the size that the file has. The pointer of any other record says nothing.
+// A healthy record that says the size that the file has. Any other record says none.
 fn is_unharmed(kind: FileKind, z: Zone, size: u64) -> bool
     requires { ⌜ Fitting kind z ⌝ }
     ensures { λ r. ⌜ r ≡ unharmed kind z size ⌝ }

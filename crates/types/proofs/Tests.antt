@@ -3,11 +3,11 @@
 use Prim.Native.Nat.{ℕ, suc, _+_, _-_, _≤_, _<_}
 use native.Mathlib.Omega.{arith}
 use native.Mathlib.Nat.{lt-of-not-le}
-use native.Mathlib.Decide.{decLe, ℕ-discrete}
+use native.Mathlib.Decide.{decLe}
 use mathlib.Core.Path.{_≡_, refl, _∙_, sym}
 use mathlib.Core.Bool.{Bool, true, false, false≢true, not, _&&_, _||_}
-use lib.Dec.{leb, ltb, eqb}
-use borrow.Author.Tests.{le-leb, lt-leb, lt-ltb, eq-eqb, ne-eqb}
+use lib.Dec.{leb, ltb}
+use borrow.Author.Tests.{le-leb, lt-leb, lt-ltb}
 
 -- PARTS
 
@@ -51,13 +51,6 @@ leb-same a b c d f g =
     elim (decLe a b) [
       | yes h ↦ le-leb a b h ∙ sym (le-leb c d (f h))
       | no h ↦ lt-leb a b (lt-of-not-le h) ∙ sym (lt-leb c d (lt-of-not-le (λ k. h (g k))))
-    ]
-
-pub eqb-same : (a b c d : ℕ) → (a ≡ b → c ≡ d) → (c ≡ d → a ≡ b) → eqb a b ≡ eqb c d
-eqb-same a b c d f g =
-    elim (ℕ-discrete a b) [
-      | yes h ↦ eq-eqb a b h ∙ sym (eq-eqb c d (f h))
-      | no h ↦ ne-eqb a b h ∙ sym (ne-eqb c d (λ k. h (g k)))
     ]
 
 -- A LIMIT ON A SUM

@@ -1,16 +1,17 @@
 -- What a good zone tells, and that it is one without a fault.
 -- Assumes nothing.
-use mathlib.Core.Path.{_≡_, refl}
+use mathlib.Core.Path.{_≡_, refl, ap}
 use mathlib.Core.List.{List, _∷_}
-use mathlib.Core.Bool.{Bool, true, false, _&&_}
-use Prim.Native.Nat.{ℕ, _+_}
+use mathlib.Core.Bool.{Bool, true, false, not, _&&_}
+use Prim.Native.Nat.{ℕ, _+_, _%_}
 use borrow.Author.Tests.{leb-true, eqb-true}
 use lib.Dec.{leb}
-use Rattle.types.proofs.Tests.{and-left, and-right, means-out}
+use Rattle.types.specs.Blocks.{onBlock}
+use Rattle.types.proofs.Tests.{both, and-left, and-right, means-out}
 use Rattle.zones.specs.declared.Zone.{Zone}
 use Rattle.zones.specs.declared.ZoneFault.{ZoneFault}
 use Rattle.zones.specs.declared.ZoneFault.the-variants as fault
-use Rattle.zones.specs.Zone.{startsAt, goodLength, goodCapacity, goodEnd, goodType, goodCondition, goodPointer, pointed, pointsWell, goodRecord, goodZone}
+use Rattle.zones.specs.Zone.{startsAt, goodLength, goodCapacity, goodEnd, goodType, goodCondition, goodPointer, full, saysSize, pointed, pointsWell, goodRecord, goodZone}
 use Rattle.zones.specs.Faults.{faultUnless, recordFault, zoneFault, isFaultless}
 use Rattle.zones.specs.Facts.{Pointed, Bounded, AllBounded}
 
@@ -62,6 +63,19 @@ record-told unit z h =
     let t = six (goodLength unit z) (goodCapacity unit z) (goodEnd z) (goodType z) (goodCondition z) (goodPointer unit z) h in
     record { length = t .0; capacity = t .1; end = t .2; kind = t .3; condition = t .4; pointer = t .5 }
 
+-- where a pointer that is looked at stands
+pub record WellPointed (unit : ℕ) (z : Zone) : Type 0 where
+  pub at : Pointed z
+  pub whole : z .pointer % unit ≡ 0
+
+pub well-pointed : (unit : ℕ) (z : Zone) → goodPointer unit z ≡ true → pointed z ≡ true → WellPointed unit z
+well-pointed unit z good p =
+    let w = means-out (pointed z) (pointsWell unit z) good p in
+    let low : leb (z .start) (z .pointer) ≡ true = search (and-left, and-right, w) depth 9 in
+    let high : leb (z .pointer) (z .start + z .capacity) ≡ true = search (and-left, and-right, w) depth 9 in
+    let whole : onBlock unit (z .pointer) ≡ true = search (and-left, and-right, w) depth 9 in
+    record { at = record { low = leb-true _ _ low; high = leb-true _ _ high }; whole = eqb-true _ _ whole }
+
 -- none of its sums wraps
 pub record-bounded : (unit : ℕ) (z : Zone) → goodRecord unit z ≡ true → Bounded z
 record-bounded unit z h =
@@ -70,14 +84,12 @@ record-bounded unit z h =
     record {
       held = leb-true _ _ inside;
       end = leb-true _ _ (t .end);
-      pointer = λ p. points (means-out (pointed z) (pointsWell unit z) (t .pointer) p);
+      pointer = λ p. well-pointed unit z (t .pointer) p .at;
     }
-  where
-    points : pointsWell unit z ≡ true → Pointed z
-    points w =
-        let low : leb (z .start) (z .pointer) ≡ true = search (and-left, and-right) depth 9 in
-        let high : leb (z .pointer) (z .start + z .capacity) ≡ true = search (and-left, and-right) depth 9 in
-        record { low = leb-true _ _ low; high = leb-true _ _ high }
+
+-- a zone that says its size and isn't full says it by its pointer
+pub by-pointer : (z : Zone) → Bounded z → saysSize z ≡ true → full z ≡ false → Pointed z
+by-pointer z w s e = w .pointer (both s (ap not e))
 
 pub zone-told : (unit e : ℕ) (z : Zone) → goodZone unit e z ≡ true → (z .start ≡ e) × (goodRecord unit z ≡ true)
 unfolding goodZone

@@ -54,9 +54,13 @@ conditionOf z = cond (eqb (z .condition) 13) ReadOnly (cond (eqb (z .condition) 
 abbrev pub healthy : Zone → Bool
 healthy z = isHealthy (conditionOf z)
 
--- "sequential size = (pointer − start) × 512"
+-- 02, "Full zones": condition 14
+abbrev pub full : Zone → Bool
+full z = eqb (z .condition) 14
+
+-- 02: "For condition 14 the pointer is ignored and the size is the capacity"; else "sequential size = (pointer − start) × 512"
 abbrev pub writtenSize : Zone → ℕ
-writtenSize z = bytesOf (z .pointer - z .start)
+writtenSize z = cond (full z) (bytesOf (z .capacity)) (bytesOf (z .pointer - z .start))
 
 -- ---- "A zone is good input if", test by test
 
@@ -91,17 +95,19 @@ sequentialCondition c = leb 1 c && leb c 4 || eqb c 13 || eqb c 14 || eqb c 15
 abbrev pub goodCondition : Zone → Bool
 goodCondition z = cond (conventional z) (conventionalCondition (z .condition)) (sequentialCondition (z .condition))
 
--- the pointer of a healthy sequential zone is looked at, and no other
+-- a healthy sequential zone says how much of it is written
+abbrev pub saysSize : Zone → Bool
+saysSize z = sequential z && healthy z
+
+-- by its pointer, unless it is full: this pointer is looked at, and no other
 abbrev pub pointed : Zone → Bool
-pointed z = sequential z && healthy z
+pointed z = saysSize z && not (full z)
 
--- "the pointer lies in start..start+capacity on a block, and for 14 it is start+capacity"
+-- "the pointer lies in start..start+capacity on a block"
 abbrev pub pointsWell : ℕ → Zone → Bool
-pointsWell unit z =
-    leb (z .start) (z .pointer) && leb (z .pointer) (z .start + z .capacity) && onBlock unit (z .pointer)
-    && (not (eqb (z .condition) 14) || eqb (z .pointer) (z .start + z .capacity))
+pointsWell unit z = leb (z .start) (z .pointer) && leb (z .pointer) (z .start + z .capacity) && onBlock unit (z .pointer)
 
--- "for 1 to 4 and 14": where it is looked at
+-- "for 1 to 4": where it is looked at
 abbrev pub goodPointer : ℕ → Zone → Bool
 goodPointer unit z = not (pointed z) || pointsWell unit z
 

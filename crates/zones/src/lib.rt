@@ -4,7 +4,7 @@ ghost use mathlib.Core.Bool.{true, cond};
 ghost use Prim.Native.Nat.{_+_, _≤_, _<_};
 ghost use lib.ListN.{length};
 ghost use Rattle.types.specs.Blocks.{onBlock, wholeBlocks};
-ghost use Rattle.zones.specs.Zone.{zoneBytes, zoneAt, conventional, sequential, conditionOf, healthy, writtenSize, startsAt, goodLength, goodCapacity, goodEnd, goodType, conventionalCondition, sequentialCondition, goodCondition, pointed, pointsWell, goodPointer, goodRecord, goodZone};
+ghost use Rattle.zones.specs.Zone.{zoneBytes, zoneAt, conventional, sequential, conditionOf, healthy, full, writtenSize, saysSize, startsAt, goodLength, goodCapacity, goodEnd, goodType, conventionalCondition, sequentialCondition, goodCondition, pointed, pointsWell, goodPointer, goodRecord, goodZone};
 ghost use Rattle.zones.specs.Faults.{faultUnless, recordFault, zoneFault, faultCode, isFaultless};
 ghost use Rattle.zones.specs.Facts.{Bounded};
 use types::Condition;
@@ -53,7 +53,7 @@ const SEQUENTIAL_REQUIRED: u8 = 2;
 
 const SEQUENTIAL_PREFERRED: u8 = 3;
 
-// The conditions of a zone. A conventional one has no pointer; those from empty to closed tell how far a sequential one is written.
+// The conditions of a zone. A conventional one has no pointer; at those from empty to closed a sequential one's tells how far it is written.
 const NO_POINTER: u8 = 0;
 
 const EMPTY: u8 = 1;
@@ -127,12 +127,22 @@ pub fn is_healthy(z: Zone) -> bool
     types::predicates::is_healthy(condition_of(z))
 }
 
-// How many bytes a sequential zone's pointer says are written.
+fn is_full(z: Zone) -> bool
+    ensures { λ r. ⌜ r ≡ full z ⌝ }
+{
+    z.condition == FULL
+}
+
+// How many bytes of a healthy sequential zone are written: those below its pointer, and all of a full one, whose pointer means nothing.
 pub fn written_size(z: Zone) -> u64
-    requires { ⌜ Bounded z × (pointed z ≡ true) ⌝ }
+    requires { ⌜ Bounded z × (saysSize z ≡ true) ⌝ }
     ensures { λ r. ⌜ r ≡ writtenSize z ⌝ }
 {
-    types::units::bytes_of(z.pointer - z.start)
+    if is_full(z) {
+        types::units::bytes_of(z.capacity)
+    } else {
+        types::units::bytes_of(z.pointer - z.start)
+    }
 }
 
 // On a block of so many sectors. With the large block written out, its numbers aren't divided by one that only the run knows.
@@ -211,12 +221,13 @@ fn good_condition(z: Zone) -> bool
     }
 }
 
-// The pointer of a healthy sequential zone is looked at, and no other.
+// The pointer of a healthy sequential zone that isn't full is looked at, and no other.
 fn is_pointed(z: Zone) -> bool
     ensures { λ r. ⌜ r ≡ pointed z ⌝ }
 {
     let sequential = is_sequential(z);
-    sequential & is_healthy(z)
+    let healthy = is_healthy(z);
+    sequential & healthy & !is_full(z)
 }
 
 // Compared by its distance from the start, so that no sum wraps.
@@ -227,7 +238,7 @@ fn points_well(z: Zone, unit: u64) -> bool
     if z.start <= z.pointer {
         let written = z.pointer - z.start;
         let whole = on_unit(z.pointer, unit);
-        (written <= z.capacity) & whole & (!(z.condition == FULL) | (written == z.capacity))
+        (written <= z.capacity) & whole
     } else {
         false
     }

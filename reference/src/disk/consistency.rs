@@ -13,7 +13,9 @@ use crate::player::mount::Input;
 use crate::player::play::mount_volume;
 use crate::player::superblock;
 use crate::player::tape::CallRecord;
-use crate::player::types::{Access, Condition, FileKind, Held, Operation, Policy, Refusal, Row, Volume};
+use crate::player::types::{
+    Access, Condition, FileKind, Held, Operation, Policy, Refusal, Row, Volume, SECTOR,
+};
 use crate::player::zone::{self, Zone, HEADER, RECORD};
 
 /// A failed check shows so many entries of its run.
@@ -118,6 +120,7 @@ impl Run {
         let aggregate = superblock::decode(&input.super_block).map_err(refused)?.aggregate;
         let owner = owners(&zones, aggregate);
         let seq_zone: Vec<usize> = (1..zones.len()).filter(|&zone| !zones[zone].is_conventional()).collect();
+        let disk = Disk::new(zones, volume.mount.block);
         let story = |zone: Option<&Zone>| Story {
             quiet: true,
             recovered: false,
@@ -128,8 +131,8 @@ impl Run {
             input: input.clone(),
             show_report: Box::new(first_report_changed(input.report.clone())),
             cnv: vec![story(None); volume.mount.cnv_files],
-            seq: seq_zone.iter().map(|&zone| story(Some(&zones[zone]))).collect(),
-            disk: Disk::new(zones, volume.mount.block),
+            seq: seq_zone.iter().map(|&zone| story(Some(&disk.zones[zone]))).collect(),
+            disk,
             volume,
             owner,
             seq_zone,
@@ -411,9 +414,10 @@ fn exception(policy: Policy, story: &Story, health: Condition) -> Option<usize> 
     }
 }
 
+/// By where the disk's own pointer stands, in a full zone too.
 fn size_if_healthy(zone: &Zone) -> u64 {
     if zone.health() == Condition::Healthy {
-        zone.written()
+        (zone.pointer - zone.start) * SECTOR
     } else {
         0
     }

@@ -34,13 +34,16 @@ pub struct Outcome {
 
 #[derive(Clone, Debug)]
 pub struct Disk {
+    /// The pointer of each healthy sequential zone is where the disk writes, also while it is full.
     pub zones: Vec<Zone>,
     /// Sectors in a block.
     step: u64,
 }
 
 impl Disk {
-    pub fn new(zones: Vec<Zone>, block: u64) -> Disk {
+    /// A disk with zones as a good report says they are.
+    pub fn new(mut zones: Vec<Zone>, block: u64) -> Disk {
+        zones.iter_mut().for_each(stand_at_end_if_full);
         Disk { zones, step: block / SECTOR }
     }
 
@@ -137,6 +140,13 @@ impl Disk {
         if !zone.is_conventional() {
             move_pointer(zone, zone.pointer + sectors);
         }
+    }
+}
+
+/// A report may say any pointer of a full zone. On the disk it stands at the end, and falls back from there.
+fn stand_at_end_if_full(zone: &mut Zone) {
+    if zone.condition == FULL {
+        zone.pointer = zone.start + zone.capacity;
     }
 }
 

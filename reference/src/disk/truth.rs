@@ -1,13 +1,18 @@
 //! What a zone record may say and still be true: many bytes show the same zone.
 
 use crate::player::types::{u32_at, Condition};
-use crate::player::zone::{Zone, HEADER, RECORD};
+use crate::player::zone::{Zone, FULL, HEADER, RECORD};
 
 /// A true record may differ from the disk's own bytes in so many ways.
-pub const FREEDOMS: usize = 4;
-/// What they are, in the order of `freedoms`.
-pub const FREEDOM_NAMES: [&str; FREEDOMS] =
-    ["another type byte", "another condition byte", "another pointer", "no capacity"];
+pub const FREEDOMS: usize = 5;
+/// What they are, in the order of `freedoms`. The last is a case of the third.
+pub const FREEDOM_NAMES: [&str; FREEDOMS] = [
+    "another type byte",
+    "another condition byte",
+    "another pointer",
+    "no capacity",
+    "another pointer of a full zone",
+];
 
 /// A zone record, and whether its capacity field counts.
 #[derive(Clone, Copy, Debug, PartialEq, Eq)]
@@ -35,11 +40,13 @@ impl Shown {
     /// In what it differs from the bytes that the disk itself has for the zone.
     pub fn freedoms(&self, zone: &Zone) -> [bool; FREEDOMS] {
         let shown = self.zone();
+        let other_pointer = shown.pointer != zone.pointer;
         [
             shown.kind != zone.kind,
             shown.condition != zone.condition,
-            shown.pointer != zone.pointer,
+            other_pointer,
             !self.capacity_given,
+            other_pointer && shown.condition == FULL,
         ]
     }
 }
@@ -51,18 +58,31 @@ pub fn shown_in(report: &[u8]) -> Vec<Shown> {
     records.iter().map(|&record| Shown { record, capacity_given }).collect()
 }
 
-/// Whether a zone's pointer says how much of it is written.
-pub fn pointer_counts(zone: &Zone) -> bool {
+/// Whether the disk writes the zone at a pointer; that of any other stands nowhere.
+pub fn has_pointer(zone: &Zone) -> bool {
     !zone.is_conventional() && zone.health() == Condition::Healthy
 }
 
-/// Whether `shown` is good input that says of `zone` what is so. Both sequential types say the same, and so do all
-/// conditions of a healthy sequential zone; a pointer that doesn't count may be anything.
+/// Whether the disk's pointer of a zone stands behind all that the zone can hold.
+pub fn stands_at_end(zone: &Zone) -> bool {
+    zone.pointer == zone.start + zone.capacity
+}
+
+/// Whether `shown` says where the disk's pointer stands: by being full, with any pointer at all, or by its pointer.
+fn tells_pointer(shown: &Zone, zone: &Zone) -> bool {
+    match shown.condition {
+        FULL => stands_at_end(zone),
+        _ => shown.pointer == zone.pointer,
+    }
+}
+
+/// Whether `shown` is good input that says of `zone`, as the disk has it, what is so. Both sequential types say the
+/// same, and so do the conditions 1 to 4 of a healthy sequential zone; a pointer that doesn't count may be anything.
 pub fn is_true(shown: &Zone, zone: &Zone, block: u64) -> bool {
     let place = |zone: &Zone| (zone.start, zone.length, zone.capacity);
     let sort = |zone: &Zone| (zone.is_conventional(), zone.health());
     shown.is_good(block)
         && place(shown) == place(zone)
         && sort(shown) == sort(zone)
-        && (!pointer_counts(zone) || shown.pointer == zone.pointer)
+        && (!has_pointer(zone) || tells_pointer(shown, zone))
 }

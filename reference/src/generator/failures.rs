@@ -2,18 +2,25 @@
 
 use super::random::Random;
 use super::refused::spoil_zone;
-use super::shape::encode_zone;
-use crate::disk::truth::{pointer_counts, Shown};
-use crate::player::types::{FileKind, Held, Row, Volume, DISK_LIMIT, SECTOR};
+use super::shape::{any_pointer, encode_zone, report_header};
+use crate::disk::truth::Shown;
+use crate::player::types::{Command, FileKind, Held, Operation, Row, Volume, DISK_LIMIT, SECTOR};
 use crate::player::zone::{self, Zone, RECORD};
 
 /// The zone with the disk's own type and condition. Where a pointer means nothing the disk may put anything there.
 pub fn own_record(random: &mut Random, zone: &Zone) -> Shown {
     let mut shown = *zone;
-    if !pointer_counts(zone) {
-        shown.pointer = random.pick(&[zone.pointer, zone.start, 0, u64::MAX, zone.start + 1]);
+    if !zone.pointer_counts() {
+        shown.pointer = any_pointer(random, zone);
     }
     Shown::with_capacity_given(encode_zone(random, &shown))
+}
+
+/// A report of all zones, each as in its own record.
+pub fn own_report(random: &mut Random, zones: &[Zone]) -> Vec<u8> {
+    let mut report = report_header(zones.len(), true);
+    zones.iter().for_each(|zone| report.extend_from_slice(&own_record(random, zone).record));
+    report
 }
 
 /// A record that fits the file of the held command, mostly.
@@ -39,32 +46,37 @@ fn plausible_zone(random: &mut Random, volume: &Volume, held: &Held) -> Zone {
     let row = &volume.rows(held.kind)[held.number as usize];
     let step = volume.mount.block / SECTOR;
     match held.kind {
-        FileKind::Sequential => sequential_zone(random, row, step, held.command.length),
+        FileKind::Sequential => sequential_zone(random, row, step, &held.command),
         FileKind::Conventional => conventional_zone(random, row, step),
     }
 }
 
-fn sequential_zone(random: &mut Random, row: &Row, step: u64, asked: u64) -> Zone {
+fn sequential_zone(random: &mut Random, row: &Row, step: u64, command: &Command) -> Zone {
     let capacity = row.capacity / SECTOR;
-    let spare = if random.percent(50) { step * random.below(4) } else { 0 };
+    let spare = if random.percent(50) { step * random.between(1, 4) } else { 0 };
     let length = (capacity + spare).min(DISK_LIMIT - row.start);
-    let mut condition = random.pick(&[1, 2, 3, 4, 13, 14, 15, 2, 2, 13]);
+    // Often full where a wrong size would show: in a full file, and after a read, whose test looks at the size.
+    let often_full = row.size == row.capacity || command.operation == Operation::Read;
+    let condition = if often_full && random.percent(50) {
+        zone::FULL
+    } else {
+        random.pick(&[1, 2, 3, 4, 13, 14, 15, 2, 2, 13])
+    };
     let written = match random.weighted(&[40, 20, 20, 10, 10]) {
         0 => row.size / SECTOR,
-        1 => (row.size + asked).min(row.capacity) / SECTOR / step * step,
+        1 => (row.size + command.length).min(row.capacity) / SECTOR / step * step,
         2 => random.below(capacity / step.max(1) + 1) * step,
         3 => 0,
         _ => capacity,
     };
-    let mut pointer = row.start + written;
-    if condition == zone::FULL {
-        pointer = row.start + capacity;
-    }
-    if random.percent(3) {
-        condition = zone::FULL;
-    }
+    let pointer = row.start + written;
     let kind = random.pick(&[zone::SEQUENTIAL_REQUIRED, zone::SEQUENTIAL_PREFERRED]);
-    Zone { start: row.start, length, pointer, kind, condition, capacity }
+    let zone = Zone { start: row.start, length, pointer, kind, condition, capacity };
+    // Most pointers that are ignored stand where they would be good, often at the size.
+    if zone.pointer_counts() || random.percent(60) {
+        return zone;
+    }
+    Zone { pointer: any_pointer(random, &zone), ..zone }
 }
 
 /// Any part of the file may be the zone that is reported, on the block or not.

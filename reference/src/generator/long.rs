@@ -1,5 +1,6 @@
 //! One long run against the model disk that stays lively to its end.
 
+use super::failures::own_report;
 use super::random::Random;
 use super::records::head;
 use super::runs::{doing, step, Course};
@@ -23,7 +24,9 @@ const FEWEST_FILES: usize = 8;
 pub fn long(seed: u64, calls: u64, pad: u64) -> Result<Vec<u8>, String> {
     // An index that no other tape of the seed has.
     let mut random = Random::new(seed, u64::MAX);
-    let (input, mut run) = begin(&mut random)?;
+    let (input, run) = begin(&mut random)?;
+    let mut reports = Random::with_state(random.word());
+    let mut run = run.showing(move |zones| own_report(&mut reports, zones));
     let mut tape = head(&padded(input, pad));
     let healthy_at_mount = healthy_zones(&run);
     let mut made = 0;

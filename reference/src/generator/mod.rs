@@ -3,7 +3,7 @@
 
 mod broken;
 mod calls;
-mod failures;
+pub mod failures;
 mod impossible;
 mod long;
 pub mod random;

@@ -10,6 +10,8 @@ use crate::player::tape::Record;
 use crate::player::types::{DISK_LIMIT, SECTOR};
 use crate::player::zone::{self, Zone, HEADER};
 
+const SEQUENTIAL: [u8; 2] = [zone::SEQUENTIAL_REQUIRED, zone::SEQUENTIAL_PREFERRED];
+
 /// A tape with a refused mount. What follows the mount must not be looked at.
 pub fn tape(random: &mut Random) -> Vec<u8> {
     let mut shape = shape::shape(random);
@@ -177,11 +179,12 @@ pub fn spoil_zone(random: &mut Random, zones: &mut [Zone], step: u64) {
         _ => random.below(zones.len() as u64) as usize,
     };
     let zone = &mut zones[number];
-    match random.weighted(&[20, 20, 30, 20, 10]) {
+    match random.weighted(&[20, 20, 25, 20, 15, 10]) {
         0 => spoil_place(random, zone, step),
         1 => spoil_capacity(random, zone, step),
         2 => spoil_type(random, zone),
         3 => spoil_pointer(random, zone, step),
+        4 => point_past_capacity(random, zone, step),
         _ => {
             let value = random.extreme();
             match random.below(4) {
@@ -227,14 +230,15 @@ fn spoil_type(random: &mut Random, zone: &mut Zone) {
     if random.percent(40) {
         zone.kind = random.pick(&[0, 1, 2, 3, 4, 255]);
     } else {
-        zone.condition = random.pick(&[0, 1, 4, 5, 12, 13, 14, 14, 15, 16, 255]);
+        zone.condition = random.pick(&[0, 1, 4, 5, 12, 13, 14, 15, 16, 255]);
     }
 }
 
 fn spoil_pointer(random: &mut Random, zone: &mut Zone, step: u64) {
     if random.percent(70) {
-        zone.kind = zone::SEQUENTIAL_REQUIRED;
-        zone.condition = random.pick(&[1, 2, 3, 4, 14, 14, 13, 15]);
+        zone.kind = random.pick(&SEQUENTIAL);
+        // No pointer is a fault with one of the last three.
+        zone.condition = random.pick(&[1, 2, 3, 4, 1, 2, 3, 4, zone::READ_ONLY, zone::FULL, zone::OFFLINE]);
     }
     let end = zone.start.wrapping_add(zone.capacity);
     zone.pointer = match random.below(7) {
@@ -243,7 +247,21 @@ fn spoil_pointer(random: &mut Random, zone: &mut Zone, step: u64) {
         2 => end.wrapping_add(step),
         3 => end.wrapping_sub(step),
         4 => end.wrapping_sub(1),
-        5 => zone.start.wrapping_add(zone.length),
+        5 => random.pick(&[0, u64::MAX]),
         _ => end,
     };
+}
+
+/// To the end of a zone that holds less than its length and isn't full.
+fn point_past_capacity(random: &mut Random, zone: &mut Zone, step: u64) {
+    zone.kind = random.pick(&SEQUENTIAL);
+    zone.condition = random.between(1, 4) as u8;
+    if zone.capacity == zone.length {
+        // A failed command's record must keep its file's capacity, and a zone of a report its length.
+        match random.below(2) {
+            0 => zone.length = zone.length.wrapping_add(step),
+            _ => zone.capacity = zone.capacity.wrapping_sub(step),
+        }
+    }
+    zone.pointer = zone.start.wrapping_add(zone.length);
 }

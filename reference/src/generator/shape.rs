@@ -108,12 +108,31 @@ fn make_sequential(random: &mut Random, zone: &mut Zone, step: u64, ill: u64, ca
     let open = if written == blocks && random.percent(70) {
         zone::FULL
     } else {
-        // Any of the four is good at any pointer.
+        // Any of the four is good at any pointer, also at the end.
         random.between(1, 4) as u8
     };
     zone.condition = ill_or(random, ill, open);
-    if zone.condition >= zone::READ_ONLY && zone.condition != zone::FULL {
-        zone.pointer = random.pick(&[zone.pointer, 0, u64::MAX, zone.start + 1]);
+    if !zone.pointer_counts() {
+        zone.pointer = any_pointer(random, zone);
+    }
+}
+
+/// For a pointer that is ignored: where it could stand, just beside that, and anywhere else.
+pub fn any_pointer(random: &mut Random, zone: &Zone) -> u64 {
+    let end = zone.start + zone.capacity;
+    match random.below(11) {
+        0 => 0,
+        1 => u64::MAX,
+        2 => zone.start,
+        3 => zone.pointer,
+        4 => end,
+        // Eight sectors are whole blocks, whichever block the disk has.
+        5 => zone.start + random.below(zone.capacity) / 8 * 8,
+        6 => random.pick(&[zone.start + 1, end.wrapping_sub(1)]),
+        7 => random.pick(&[zone.start.wrapping_sub(1), zone.start.wrapping_sub(8)]),
+        8 => zone.start + zone.length,
+        9 => random.word(),
+        _ => random.extreme(),
     }
 }
 

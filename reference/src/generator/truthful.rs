@@ -1,8 +1,8 @@
 //! The disk's zones in bytes that are true of them. Many are; each of them may be drawn.
 
 use super::random::Random;
-use super::shape::{encode_zone, report_header};
-use crate::disk::truth::{pointer_counts, Shown};
+use super::shape::{any_pointer, encode_zone, report_header};
+use crate::disk::truth::{has_pointer, stands_at_end, Shown};
 use crate::player::zone::{self, Zone, RECORD};
 
 /// The record that a failed command carries.
@@ -25,13 +25,13 @@ fn needs_capacity(zone: &Zone) -> bool {
 }
 
 fn bytes(random: &mut Random, zone: &Zone, capacity_given: bool) -> [u8; RECORD] {
-    let shown = Zone {
-        pointer: pointer(random, zone),
-        kind: kind(random, zone),
-        condition: condition(random, zone),
-        capacity: if capacity_given { zone.capacity } else { any_number(random, zone) },
-        ..*zone
-    };
+    let mut shown = Zone { kind: kind(random, zone), condition: condition(random, zone), ..*zone };
+    if !shown.pointer_counts() {
+        shown.pointer = any_pointer(random, zone);
+    }
+    if !capacity_given {
+        shown.capacity = any_number(random, zone);
+    }
     encode_zone(random, &shown)
 }
 
@@ -44,21 +44,15 @@ fn kind(random: &mut Random, zone: &Zone) -> u8 {
     }
 }
 
-/// Of a healthy sequential zone 1 to 4 are good at any pointer, 14 at the end alone.
+/// Of a healthy sequential zone 1 to 4 are true wherever its pointer stands, 14 at the end alone.
 fn condition(random: &mut Random, zone: &Zone) -> u8 {
-    if !pointer_counts(zone) {
+    if !has_pointer(zone) {
         return zone.condition;
     }
-    let full = zone.pointer == zone.start + zone.capacity;
-    random.pick(if full { &[1, 2, 3, 4, 14] } else { &[1, 2, 3, 4] })
-}
-
-fn pointer(random: &mut Random, zone: &Zone) -> u64 {
-    if pointer_counts(zone) {
-        zone.pointer
-    } else {
-        any_number(random, zone)
+    if stands_at_end(zone) && random.percent(50) {
+        return zone::FULL;
     }
+    random.between(1, 4) as u8
 }
 
 /// For a field that means nothing: one that would mean something, or any.

@@ -85,7 +85,7 @@ fn matches_file(zone: &Zone, kind: FileKind, row: &Row) -> bool {
     }
 }
 
-/// A read that failed in a healthy zone whose size is as it should be recovers nothing.
+/// A read that failed in a healthy zone, of which as much is written as the file's size says, recovers nothing.
 fn needs_recovery(held: &Held, row: &Row, zone: &Zone) -> bool {
     let size_agrees = held.kind == FileKind::Conventional
         || (zone.health() == Condition::Healthy && row.size == zone.written());

@@ -54,9 +54,16 @@ impl Zone {
         }
     }
 
-    /// Bytes before the write pointer; only for a good, healthy, sequential zone.
+    /// The one test of whether the pointer is looked at: it says how much is written, and it must be good for that.
+    /// A full zone has none, nor has one that is read-only, offline or conventional; whatever stands there is ignored.
+    pub fn pointer_counts(&self) -> bool {
+        !self.is_conventional() && matches!(self.condition, EMPTY..=CLOSED)
+    }
+
+    /// How many bytes of a good, healthy, sequential zone are written: all that it can hold, if it is full.
     pub fn written(&self) -> u64 {
-        (self.pointer - self.start) * SECTOR
+        let sectors = if self.pointer_counts() { self.pointer - self.start } else { self.capacity };
+        sectors * SECTOR
     }
 
     /// Every check of a zone but the one on where it starts.
@@ -67,19 +74,14 @@ impl Zone {
             && whole(self.capacity)
             && self.capacity <= self.length
             && sum_within(self.start, self.length, DISK_LIMIT)
-            && self.fits_its_kind(step)
+            && self.fits_its_kind()
+            && (!self.pointer_counts() || self.pointer_is_good(step))
     }
 
-    fn fits_its_kind(&self, step: u64) -> bool {
+    fn fits_its_kind(&self) -> bool {
         match (self.kind, self.condition) {
             (CONVENTIONAL, NOT_WRITE_POINTER | READ_ONLY | OFFLINE) => self.capacity == self.length,
-            (SEQUENTIAL_REQUIRED | SEQUENTIAL_PREFERRED, condition) => match condition {
-                // The pointer of such a zone means nothing.
-                READ_ONLY | OFFLINE => true,
-                EMPTY..=CLOSED => self.pointer_is_good(step),
-                FULL => self.pointer_is_good(step) && self.pointer == self.start + self.capacity,
-                _ => false,
-            },
+            (SEQUENTIAL_REQUIRED | SEQUENTIAL_PREFERRED, EMPTY..=CLOSED | READ_ONLY | FULL | OFFLINE) => true,
             _ => false,
         }
     }

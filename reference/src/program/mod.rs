@@ -2,5 +2,6 @@
 
 pub mod compare;
 pub mod describe;
+pub mod pointers;
 pub mod sums;
 pub mod tally;

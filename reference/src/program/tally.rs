@@ -1,7 +1,8 @@
-//! What a comparison has reached: answers by mark, and the consistency check's own numbers.
+//! What a comparison has reached: answers by mark, pointers, and the consistency check's own numbers.
 
 use std::collections::BTreeMap;
 
+use super::pointers::{Pointers, CASE_NAMES};
 use crate::disk::consistency::Compared;
 use crate::disk::truth::FREEDOM_NAMES;
 
@@ -25,6 +26,8 @@ pub struct Tally {
     /// Tapes on which the player ended with another exit status than 0; the papers ask nothing of it.
     pub exits: u64,
     answers: BTreeMap<(String, String), u64>,
+    /// Pointers on the tapes, by what came of them.
+    pub pointers: Pointers,
     /// What the consistency check saw while the tapes were made.
     pub compared: Compared,
 }
@@ -46,6 +49,7 @@ impl Tally {
         self.lines += other.lines;
         self.exits += other.exits;
         self.compared.add(&other.compared);
+        self.pointers.add(&other.pointers);
         for (key, count) in &other.answers {
             *self.answers.entry(key.clone()).or_default() += count;
         }
@@ -60,6 +64,9 @@ impl Tally {
             for answer in answers.iter().filter(|answer| !reached(mark, answer)) {
                 missing.push(format!("{mark} {answer}"));
             }
+        }
+        for (name, _) in CASE_NAMES.iter().zip(self.pointers.counts).filter(|(_, count)| *count == 0) {
+            missing.push(name.to_string());
         }
         for (index, _) in self.compared.exceptions.iter().enumerate().filter(|(_, &count)| count == 0) {
             missing.push(format!("exception {} of the consistency check", index + 1));
@@ -110,8 +117,9 @@ impl Tally {
         let Compared { states, rows, exceptions, failures, records, reports, impossible } = self.compared;
         let (exceptions, records, reports) =
             (counts_text(&exceptions), counts_text(&records), counts_text(&reports));
+        let pointers = counts_text(&self.pointers.counts);
         format!(
-            "{} tapes, {} lines alike ({answers}), nonzero exits {}; fresh mounts {states}, rows {rows}, exceptions {exceptions}, failures {failures}, other bytes in records {records} and in reports {reports}, copies answered 10 {impossible}",
+            "{} tapes, {} lines alike ({answers}), nonzero exits {}; fresh mounts {states}, rows {rows}, exceptions {exceptions}, failures {failures}, other bytes in records {records} and in reports {reports}, copies answered 10 {impossible}, pointers {pointers}",
             self.tapes, self.lines, self.exits
         )
     }

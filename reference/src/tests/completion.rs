@@ -125,7 +125,10 @@ fn records_that_do_not_fit() {
         zone(S, 524288, S + 8, 2, 2, 393208),
         zone(S, 524288, S + 8, 1, 0, 524288),
         zone(S, 524288, S + 4, 2, 2, 393216),
-        zone(S, 524288, S + 8, 2, 14, 393216),
+        zone(S, 524288, S + 8, 2, 14, 393208),
+        zone(S + 8, 524288, S + 8, 2, 14, 393216),
+        zone(S, 393208, S + 393216, 2, 14, 393216),
+        zone(S, 524288, S + 8, 1, 14, 524288),
         zone(S, 524288, S + 8, 2, 0, 393216),
         zone(S, 393208, S + 8, 2, 2, 393216),
         zone(S, 1 << 40, S + 8, 2, 2, 393216),
@@ -137,6 +140,124 @@ fn records_that_do_not_fit() {
     // Without the flag the capacity is the length, which isn't the row's.
     assert_eq!(volume.fail(&sequential(1572880, 2), false), Err(Refusal::RecordMismatch));
     assert_eq!(volume, before);
+}
+
+/// Pointers that no zone with one of the conditions 1 to 4 has. The fifth is the zone's end, past its capacity.
+const BAD_POINTERS: [u64; 6] = [0, 1572864 - 8, 1572864 + 4, 1572864 + 393224, 1572864 + 524288, u64::MAX];
+/// The start of zone 3, its size at mount, a block before its capacity's end, and that end.
+const GOOD_POINTERS: [u64; 4] = [1572864, 1572872, 1966072, 1966080];
+
+#[test]
+fn a_bad_pointer_does_not_fit_unless_the_zone_is_full() {
+    for pointer in BAD_POINTERS {
+        for condition in 1..=4 {
+            let mut volume = sheet();
+            volume.call(&write(SEQ, 0, 4096, 8192)).unwrap();
+            let before = volume.clone();
+            let answer = volume.fail(&sequential(pointer, condition), true);
+            assert_eq!(answer, Err(Refusal::RecordMismatch), "pointer {pointer} condition {condition}");
+            assert_eq!(volume, before);
+            assert_eq!(volume.fail(&sequential(pointer, 14), true), Ok(201326592), "pointer {pointer}");
+        }
+    }
+}
+
+#[test]
+fn a_good_pointer_counts_unless_the_zone_is_full() {
+    for (pointer, size) in GOOD_POINTERS.into_iter().zip([0, 4096, 201322496, 201326592]) {
+        for condition in 1..=4 {
+            let mut volume = sheet();
+            volume.call(&write(SEQ, 0, 4096, 8192)).unwrap();
+            assert_eq!(volume.clone().fail(&sequential(pointer, condition), true), Ok(size));
+            assert_eq!(volume.fail(&sequential(pointer, 14), true), Ok(201326592));
+        }
+    }
+}
+
+/// Every command but a read, under every option: by the table's column for a healthy zone.
+#[test]
+fn a_full_record_recovers_to_the_capacity() {
+    let calls = [write(SEQ, 0, 4096, 8192), truncate(SEQ, 0, 0), truncate(SEQ, 0, 201326592), flush(SEQ, 0)];
+    let cells = [
+        (201326592, Access::Write),
+        (201326592, Access::Read),
+        (0, Access::None),
+        (201326592, Access::Write),
+    ];
+    for (options, (size, access)) in OPTIONS.into_iter().zip(cells) {
+        for call in calls {
+            for pointer in [BAD_POINTERS.as_slice(), &GOOD_POINTERS].concat() {
+                for kind in [2, 3] {
+                    let mut volume = sheet_under(options);
+                    let before = volume.clone();
+                    volume.call(&call).unwrap();
+                    let full = record(&zone(1572864, 524288, pointer, kind, 14, 393216));
+                    assert_eq!(volume.fail(&full, true), Ok(size), "{options} {call:?} pointer {pointer}");
+                    assert_eq!(volume.seq[0], Row { size, access, ..before.seq[0] });
+                    assert_eq!(volume.mount.read_only, options == "errors=remount-ro");
+                    assert_eq!((volume.mount.held, volume.seq[1]), (None, before.seq[1]));
+                }
+            }
+        }
+    }
+}
+
+/// Zone 3 is full at mount with another pointer than the record has; the size is the capacity by both.
+#[test]
+fn a_failed_read_of_a_full_file_that_is_full_recovers_nothing() {
+    for options in OPTIONS {
+        for (at_mount, in_record) in [(0, u64::MAX), (1966080, 0), (1572864, 1966072), (1572872, 1572872)] {
+            let mut zones = sheet_zones();
+            zones[3] = zone(1572864, 524288, at_mount, 2, 14, 393216);
+            let mut volume = mount_volume(&input_with(0, options, &zones)).unwrap();
+            let before = volume.clone();
+            volume.call(&read(SEQ, 0, 0, 4096)).unwrap();
+            assert_eq!(volume.fail(&sequential(in_record, 14), true), Ok(201326592));
+            assert_eq!(volume, before, "{options}, pointers {at_mount} and {in_record}");
+        }
+    }
+}
+
+/// The file has 4096 bytes, and the record's pointer stands there or elsewhere: full means the capacity.
+#[test]
+fn a_failed_read_of_a_shorter_file_whose_zone_is_full_recovers() {
+    for pointer in [1572872, 0, 1572864, 1966080, u64::MAX] {
+        let mut volume = sheet_under("errors=zone-ro");
+        volume.call(&read(SEQ, 0, 0, 4096)).unwrap();
+        assert_eq!(volume.fail(&sequential(pointer, 14), true), Ok(201326592), "pointer {pointer}");
+        assert_eq!((volume.seq[0].size, volume.seq[0].access), (201326592, Access::Read));
+        let mut volume = sheet_under("errors=remount-ro");
+        volume.call(&read(SEQ, 0, 0, 4096)).unwrap();
+        assert_eq!(volume.fail(&sequential(pointer, 14), true), Ok(201326592));
+        assert!(volume.mount.read_only);
+    }
+}
+
+/// A full file whose zone says one of 1 to 4: at the capacity's end all is well, a block before something is lost.
+#[test]
+fn a_failed_read_of_a_full_file_whose_zone_has_its_pointer() {
+    for condition in 1..=4 {
+        for (pointer, size, access) in
+            [(1966080, 201326592, Access::Write), (1966072, 201322496, Access::Read)]
+        {
+            let mut zones = sheet_zones();
+            zones[3] = zone(1572864, 524288, 0, 2, 14, 393216);
+            let mut volume = mount_volume(&input_with(0, "errors=zone-ro", &zones)).unwrap();
+            volume.call(&read(SEQ, 0, 0, 4096)).unwrap();
+            assert_eq!(volume.fail(&sequential(pointer, condition), true), Ok(size));
+            assert_eq!(volume.seq[0].access, access);
+        }
+    }
+}
+
+/// A full zone is as healthy as any: it can't come after a worse one.
+#[test]
+fn a_full_record_does_not_better_a_zone() {
+    let mut volume = sheet();
+    volume.seq[0].condition = Condition::ReadOnly;
+    volume.seq[0].access = Access::Read;
+    volume.call(&read(SEQ, 0, 0, 4096)).unwrap();
+    assert_eq!(volume.fail(&sequential(0, 14), true), Err(Refusal::RecordMismatch));
 }
 
 #[test]

@@ -133,7 +133,7 @@ fn every_true_record_leaves_the_same_row() {
             let show = |zone: &Zone| own(&Zone { kind, condition, ..*zone });
             assert!(run.doing(&failing(1, None), show).unwrap().is_some());
             assert_eq!(first(&run), (8192, Condition::Healthy, access));
-            let other_bytes = [u64::from(kind != 2), u64::from(condition != 2), 0, 0];
+            let other_bytes = [u64::from(kind != 2), u64::from(condition != 2), 0, 0, 0];
             assert_eq!(run.compared.records, other_bytes);
         }
     }
@@ -161,7 +161,7 @@ fn a_conventional_record_without_a_capacity() {
         let show = |zone: &Zone| Shown { capacity_given: false, ..own(&Zone { capacity, ..*zone }) };
         assert!(run.doing(&failing(1, None), show).unwrap().is_some());
         assert_eq!((run.volume.cnv[1].size, run.volume.cnv[1].access), (268435456, Access::Read));
-        assert_eq!(run.compared.records, [0, 0, 0, 1]);
+        assert_eq!(run.compared.records, [0, 0, 0, 1, 0]);
     }
 }
 
@@ -181,12 +181,155 @@ fn every_true_report_gives_the_same_rows() {
     assert_eq!(run.compared.states, 1 + 50 * 5);
 }
 
+/// Where the pointer of zone 3 stands while the zone is full.
+const FULL_END: u64 = 1572864 + 393216;
+/// What a full zone may show as its pointer: among them the start, and what would be good with another condition.
+const ANY_POINTERS: [u64; 8] = [0, 1, 1572856, 1572864, FULL_END - 8, FULL_END, 1572864 + 524288, u64::MAX];
+
+/// The sheet's disk with zone 3 like this at mount.
+fn begin_with(options: &str, pointer: u64, condition: u8) -> Run {
+    let mut zones = sheet_zones();
+    zones[3] = Zone { pointer, condition, ..zones[3] };
+    Run::begin(&input_with(0, options, &zones)).unwrap()
+}
+
+/// Pointer and condition of zone 3 as the disk has it.
+fn zone_3(run: &Run) -> (u64, u8) {
+    (run.disk.zones[3].pointer, run.disk.zones[3].condition)
+}
+
+/// Whatever the first report says of a full zone's pointer, it stands at the end, and a mishap moves it from there.
+#[test]
+fn a_full_zone_falls_from_its_end() {
+    for pointer in ANY_POINTERS {
+        let mut run = begin_with("errors=repair", pointer, 14);
+        assert_eq!(zone_3(&run), (FULL_END, 14));
+        assert_eq!(first(&run), (201326592, Condition::Healthy, Access::Write));
+        run.mishap(3, Mishap::Fall { blocks: 2 }).unwrap();
+        assert_eq!(zone_3(&run), (FULL_END - 16, 2));
+        issue_and_do(&mut run, &flush(SEQ, 0), &WELL);
+        assert_eq!(first(&run), (201326592 - 8192, Condition::Healthy, Access::Write));
+        run.mishap(3, Mishap::Fall { blocks: u64::MAX }).unwrap();
+        assert_eq!(zone_3(&run), (1572864, 1));
+    }
+}
+
+#[test]
+fn another_zone_falls_from_its_pointer() {
+    for (pointer, condition) in [(FULL_END, 1), (FULL_END, 4), (FULL_END - 8, 2), (1572872, 3)] {
+        let mut run = begin_with("errors=repair", pointer, condition);
+        assert_eq!(zone_3(&run), (pointer, condition));
+        assert!(run.disk.suffer(3, Mishap::Fall { blocks: 1 }));
+        assert_eq!(zone_3(&run).0, pointer - 8);
+    }
+}
+
+/// A full zone is reset and written again, finished, and becomes full by a write, with any pointer at mount.
+#[test]
+fn a_full_zone_in_use() {
+    for pointer in ANY_POINTERS {
+        let mut run = begin_with("errors=repair", pointer, 14);
+        issue_and_do(&mut run, &read(SEQ, 0, 201326592 - 4096, 4096), &WELL);
+        issue_and_do(&mut run, &truncate(SEQ, 0, 0), &WELL);
+        assert_eq!(zone_3(&run), (1572864, 1));
+        issue_and_do(&mut run, &write(SEQ, 0, 0, 201326592), &WELL);
+        assert_eq!(zone_3(&run), (FULL_END, 14));
+        issue_and_do(&mut run, &truncate(SEQ, 0, 0), &WELL);
+        issue_and_do(&mut run, &truncate(SEQ, 0, 201326592), &WELL);
+        assert_eq!(zone_3(&run), (FULL_END, 14));
+        assert_eq!(first(&run), (201326592, Condition::Healthy, Access::Write));
+        assert_eq!(run.compared.exceptions, [0, 0, 0]);
+    }
+}
+
+/// A write that fails with all of it landed: the record says full, with any pointer.
+#[test]
+fn every_true_record_of_a_zone_that_became_full() {
+    for (options, size, access) in [
+        ("errors=repair", 201326592, Access::Write),
+        ("errors=remount-ro", 201326592, Access::Write),
+        ("errors=zone-ro", 201326592, Access::Read),
+        ("errors=zone-offline", 0, Access::None),
+    ] {
+        for pointer in ANY_POINTERS {
+            let mut run = begin(options);
+            run.call(&write(SEQ, 0, 4096, 201322496)).unwrap();
+            let show = |zone: &Zone| own(&Zone { pointer, ..*zone });
+            assert!(run.doing(&failing(49151, None), show).unwrap().is_some());
+            assert_eq!(zone_3(&run), (FULL_END, 14));
+            assert_eq!(first(&run), (size, Condition::Healthy, access));
+            let other = u64::from(pointer != FULL_END);
+            assert_eq!(run.compared.records, [0, 0, other, 0, other]);
+        }
+    }
+}
+
+/// A failed read of a full zone, told with any pointer, recovers nothing, whatever pointer the mount had.
+#[test]
+fn every_true_record_of_a_full_zone_that_is_well() {
+    for options in ["errors=zone-offline", "errors=zone-ro", "errors=remount-ro", "errors=repair"] {
+        for (at_mount, pointer) in ANY_POINTERS.into_iter().zip(ANY_POINTERS.into_iter().rev()) {
+            let mut run = begin_with(options, at_mount, 14);
+            let before = run.volume.clone();
+            run.call(&read(SEQ, 0, 0, 4096)).unwrap();
+            let show = |zone: &Zone| own(&Zone { pointer, ..*zone });
+            assert!(run.doing(&failing(0, None), show).unwrap().is_some());
+            assert_eq!(run.volume, before);
+            assert_eq!(run.compared.exceptions, [0, 0, 0]);
+        }
+    }
+}
+
+/// Fresh mounts from reports that say full with any pointer.
+#[test]
+fn every_true_report_of_a_full_zone() {
+    for pointer in ANY_POINTERS {
+        let mut run = begin_with("errors=zone-ro", 0, 14).showing(move |zones| {
+            let mut shown = zones.to_vec();
+            shown[3].pointer = if shown[3].condition == 14 { pointer } else { shown[3].pointer };
+            report(1, &shown)
+        });
+        let (reports, rows) = (run.compared.reports, run.compared.rows);
+        run.mishap(0, Mishap::BecomesOffline).unwrap();
+        let other = u64::from(pointer != FULL_END);
+        assert_eq!(
+            (run.compared.reports[2] - reports[2], run.compared.reports[4] - reports[4]),
+            (other, other)
+        );
+        assert_eq!(run.compared.rows, rows + 2);
+        run.mishap(3, Mishap::Fall { blocks: 1 }).unwrap();
+        issue_and_do(&mut run, &flush(SEQ, 0), &WELL);
+        assert_eq!(first(&run), (201326592 - 4096, Condition::Healthy, Access::Read));
+        assert_eq!(run.compared.exceptions, [0, 0, 1]);
+    }
+}
+
+/// A zone at its end may also say 1 to 4, but then its pointer must be there.
+#[test]
+fn a_full_zone_that_says_another_condition_has_its_pointer() {
+    for condition in 1..=4 {
+        for pointer in [FULL_END, FULL_END - 8, 1572864] {
+            let mut run = begin_with("errors=repair", 0, 14);
+            run.call(&read(SEQ, 0, 0, 4096)).unwrap();
+            let show = |zone: &Zone| own(&Zone { pointer, condition, ..*zone });
+            let done = run.doing(&failing(0, None), show);
+            if pointer == FULL_END {
+                assert!(done.unwrap().is_some());
+            } else {
+                let complaint = done.unwrap_err();
+                assert!(complaint.contains("which isn't true"), "{complaint}");
+            }
+        }
+    }
+}
+
 #[test]
 fn an_untrue_record_is_noticed() {
-    let untrue: [fn(&mut Zone); 4] = [
+    let untrue: [fn(&mut Zone); 5] = [
         |zone| zone.pointer += 8,
         |zone| zone.condition = 13,
         |zone| zone.condition = 14,
+        |zone| (zone.condition, zone.pointer) = (14, FULL_END),
         |zone| zone.capacity -= 8,
     ];
     for change in untrue {
@@ -205,10 +348,12 @@ fn an_untrue_record_is_noticed() {
 
 #[test]
 fn an_untrue_report_is_noticed() {
-    let untrue: [(Change<Vec<Zone>>, &str); 4] = [
+    let untrue: [(Change<Vec<Zone>>, &str); 6] = [
         (|zones| zones[3].pointer += 8, "zone 3 is Zone"),
         (|zones| zones[4].condition = 15, "zone 4 is Zone"),
         (|zones| zones[1].condition = 13, "zone 1 is Zone"),
+        (|zones| zones[3].condition = 14, "zone 3 is Zone"),
+        (|zones| (zones[4].condition, zones[4].pointer) = (14, 2097152 + 393216), "zone 4 is Zone"),
         (|zones| zones.truncate(4), "the fresh mount's report has another number of zones"),
     ];
     for (change, expected) in untrue {

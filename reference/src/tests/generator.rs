@@ -1,12 +1,20 @@
 //! The generator: the same tapes for the same seed, other ones for another, and a check that holds.
 
 use std::collections::BTreeSet;
+use std::sync::OnceLock;
 
 use crate::generator::random::Random;
-use crate::generator::{generate, long, MAX_PAD};
+use crate::generator::{generate, long, Generated, MAX_PAD};
 use crate::player::play::play;
 use crate::player::tape::{Next, Reader, Record, Verb};
+use crate::program::pointers::CASE_NAMES;
 use crate::program::tally::Tally;
+
+/// The first tapes of seed 1, made once for all tests.
+fn tapes() -> &'static [Generated] {
+    static TAPES: OnceLock<Vec<Generated>> = OnceLock::new();
+    TAPES.get_or_init(|| (1..=400).map(|index| generate(1, index)).collect())
+}
 
 fn calls_on(tape: &[u8]) -> usize {
     let mut reader = Reader::new(tape);
@@ -51,9 +59,9 @@ fn random_numbers_are_splitmix64() {
 #[test]
 fn the_check_holds_and_sees_much() {
     let mut tally = Tally::default();
-    for index in 1..=150 {
-        let generated = generate(1, index);
-        tally.compared.add(&generated.check.unwrap());
+    for generated in &tapes()[..150] {
+        tally.compared.add(generated.check.as_ref().unwrap());
+        tally.pointers.count_tape(&generated.bytes);
         play(&generated.bytes).iter().for_each(|line| tally.count_line(&line.text));
     }
     assert!(tally.compared.exceptions.iter().all(|&count| count > 0), "{}", tally.summary());
@@ -63,13 +71,22 @@ fn the_check_holds_and_sees_much() {
     assert!(tally.missing().len() < 5, "{:?}", tally.missing());
 }
 
+/// Full zones with any pointer, and pointers that the capacity bounds, come with all that can come of them.
+#[test]
+fn the_tapes_have_every_pointer() {
+    let mut tally = Tally::default();
+    tapes().iter().for_each(|generated| tally.pointers.count_tape(&generated.bytes));
+    let missing = tally.missing();
+    let never: Vec<&str> = CASE_NAMES.into_iter().filter(|name| missing.iter().any(|m| m == name)).collect();
+    assert!(never.is_empty(), "never came: {never:?}");
+}
+
 /// The tapes of checked runs have failures in all bytes that are true of a zone, and as many as their runs had.
 #[test]
 fn checked_runs_have_every_true_record() {
     let mut seen = BTreeSet::new();
-    for index in 1..=200 {
-        let generated = generate(1, index);
-        let compared = generated.check.unwrap();
+    for (index, generated) in (1..).zip(&tapes()[..200]) {
+        let compared = generated.check.as_ref().unwrap();
         // Other tapes have completions that are true of no disk.
         if compared.states == 0 {
             continue;
@@ -93,8 +110,8 @@ fn checked_runs_have_every_true_record() {
 #[test]
 fn kinds_above_one_are_on_the_tapes() {
     let mut counts = [0; 4];
-    for index in 1..=150 {
-        for (record, text) in answered(&generate(1, index).bytes) {
+    for generated in &tapes()[..150] {
+        for (record, text) in answered(&generated.bytes) {
             let Record::Call(call) = record else { continue };
             if call.kind > 1 {
                 assert_eq!(text, format!("{} 1", call.verb.mark()));
@@ -111,11 +128,19 @@ fn missing_answers_are_named() {
     let mut tally = Tally::default();
     let all = tally.missing();
     assert!(all.contains(&"MO 29".to_string()) && all.contains(&"RD R".to_string()));
+    assert!(CASE_NAMES.iter().all(|name| all.contains(&name.to_string())));
+    let of_a_full_zone =
+        ["a true record", "a true report"].map(|what| format!("{what} with another pointer of a full zone"));
+    assert!(of_a_full_zone.iter().all(|name| all.contains(name)));
     tally.count_line("MO 29 3");
     tally.count_line("RD 0 R 512 7");
     tally.count_line("OK 0 5");
     let missing = tally.missing();
     assert_eq!(missing.len(), all.len() - 3);
+    tally.pointers.counts = [0, 1, 1, 1, 1, 1, 1, 1, 1];
+    assert_eq!(tally.missing().len(), all.len() - 11);
+    assert!(tally.missing().contains(&"a call on a file mounted with a stray pointer".to_string()));
+    assert!(tally.summary().ends_with(", pointers 0/1/1/1/1/1/1/1/1"));
     assert!(!missing.contains(&"MO 29".to_string()) && !missing.contains(&"RD R".to_string()));
     assert_eq!(
         tally.summary().split(", nonzero").next(),

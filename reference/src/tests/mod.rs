@@ -7,6 +7,7 @@ mod completion;
 mod consistency;
 mod generator;
 mod mount;
+mod pointers;
 mod sheet;
 mod tape;
 mod truthful;

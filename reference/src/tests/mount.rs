@@ -114,7 +114,6 @@ fn bad_sequential_zones() {
         zone(S, L, S + 4, 2, 2, C),
         zone(S, L, S - 8, 2, 2, C),
         zone(S, L, S + C + 8, 2, 2, C),
-        zone(S, L, S + C - 8, 2, 14, C),
         zone(S, L, S, 2, 0, C),
         zone(S, L, S, 2, 5, C),
         zone(S, L, S, 4, 1, C),
@@ -127,6 +126,91 @@ fn bad_sequential_zones() {
     }
     // Good itself, but the next zone doesn't start where it ends.
     assert_eq!(bad_zone(zone(S, (1 << 40) - S, S, 2, 1, C)), Some(4));
+}
+
+/// Pointers of every sort: below the zone, at its start, off the block, within and at the end of what it holds, at its
+/// own end, past it, and such that sums would wrap.
+const POINTERS: [u64; 13] =
+    [0, 1, S - 8, S - 1, S, S + 4, S + 8, S + C - 8, S + C, S + C + 8, S + L, 1 << 63, u64::MAX];
+
+/// The row of seq/0, if zone 3 of the sheet is this one.
+fn row_of(third: Zone) -> Row {
+    let mut zones = sheet_zones();
+    zones[3] = third;
+    mount_volume(&input_with(0, "", &zones)).unwrap().seq[0]
+}
+
+fn healthy_row(capacity: u64, size: u64) -> Row {
+    Row { start: S, capacity, size, condition: Condition::Healthy, access: Access::Write }
+}
+
+#[test]
+fn a_full_zone_has_its_capacity_whatever_its_pointer() {
+    for pointer in POINTERS {
+        for kind in [2, 3] {
+            let shorter = zone(S, L, pointer, kind, 14, C);
+            assert_eq!(row_of(shorter), healthy_row(201326592, 201326592), "{shorter:?}");
+            let whole = zone(S, L, pointer, kind, 14, L);
+            assert_eq!(row_of(whole), healthy_row(268435456, 268435456), "{whole:?}");
+        }
+    }
+}
+
+/// Full or not, the first zone is no file; it is checked as the others are.
+#[test]
+fn a_full_zone_0_has_any_pointer() {
+    for pointer in [0, 3, 524288, u64::MAX] {
+        let mut zones = sheet_zones();
+        zones[0] = zone(0, 524288, pointer, 2, 14, 393216);
+        assert_eq!(refusal(&input_with(0, "", &zones)), 0);
+        zones[0].condition = 2;
+        assert_eq!(refusal(&input_with(0, "", &zones)), if pointer == 0 { 0 } else { 29 });
+    }
+}
+
+/// What isn't the pointer is checked in a full zone too.
+#[test]
+fn bad_full_zones() {
+    for pointer in [0, S, S + C, S + L, u64::MAX] {
+        let bad = [
+            zone(S + 8, L, pointer, 2, 14, C),
+            zone(S, 0, pointer, 2, 14, C),
+            zone(S, L + 1, pointer, 2, 14, C),
+            zone(S, L, pointer, 2, 14, 0),
+            zone(S, L, pointer, 2, 14, C + 1),
+            zone(S, L, pointer, 2, 14, L + 8),
+            zone(S, (1 << 40) - S + 8, pointer, 2, 14, C),
+            zone(S, L, pointer, 1, 14, L),
+            zone(S, L, pointer, 0, 14, C),
+            zone(S, L, pointer, 4, 14, C),
+        ];
+        for zone in bad {
+            assert_eq!(bad_zone(zone), Some(3), "{zone:?}");
+        }
+    }
+}
+
+/// With conditions 1 to 4 the pointer says the size, at the end of the capacity too, and may not lie outside.
+#[test]
+fn other_zones_have_their_pointer() {
+    for condition in 1..=4 {
+        for kind in [2, 3] {
+            for pointer in POINTERS {
+                let zone = zone(S, L, pointer, kind, condition, C);
+                let size = match pointer {
+                    S => Some(0),
+                    1572872 => Some(4096),
+                    1966072 => Some(201326592 - 4096),
+                    1966080 => Some(201326592),
+                    _ => None,
+                };
+                match size {
+                    Some(size) => assert_eq!(row_of(zone), healthy_row(201326592, size), "{zone:?}"),
+                    None => assert_eq!(bad_zone(zone), Some(3), "{zone:?}"),
+                }
+            }
+        }
+    }
 }
 
 #[test]

@@ -62,6 +62,59 @@ fn failed_write() {
     }
 }
 
+/// A full zone has no pointer, so it has its capacity whatever stands there.
+#[test]
+fn full_zone_at_mount() {
+    let mut zones = sheet_zones();
+    zones[4] = zone(2097152, 524288, 0, 2, 14, 393216);
+    let volume = mount_volume(&input_with(0, "errors=repair", &zones)).unwrap();
+    assert_eq!((volume.seq[0].size, volume.seq[1].size), (4096, 201326592));
+}
+
+#[test]
+fn failed_write_into_a_full_zone() {
+    let mut volume = sheet();
+    volume.call(&write(SEQ, 0, 4096, 8192)).unwrap();
+    let zone = zone(1572864, 524288, 0, 2, 14, 393216);
+    assert_eq!(volume.fail(&record(&zone), true), Ok(201326592));
+    assert_eq!((volume.seq[0].size, volume.seq[0].access), (201326592, Access::Write));
+    assert_eq!(volume.mount.held, None);
+}
+
+/// The same two as a tape prints them, with a read that shows the size.
+#[test]
+fn full_zones_on_a_tape() {
+    let mut zones = sheet_zones();
+    zones[4] = zone(2097152, 524288, 0, 2, 14, 393216);
+    let input = input_with(0, "errors=repair", &zones);
+    let call =
+        |verb, number, offset, length| Record::Call(CallRecord { verb, kind: 1, number, offset, length });
+    let full = record(&zone(1572864, 524288, 0, 2, 14, 393216));
+    let records = [
+        Record::Block(4096),
+        Record::SuperBlock(&input.super_block),
+        Record::Report(&input.report),
+        Record::Options(b"errors=repair"),
+        call(Verb::Read, 1, 0, 201326592),
+        Record::Good,
+        call(Verb::Write, 0, 4096, 8192),
+        Record::Failed(&full),
+        call(Verb::Write, 0, 201326592, 0),
+    ];
+    let mut tape = Vec::new();
+    records.iter().for_each(|record| encode(record, &mut tape));
+    let output: String = play(&tape).iter().map(|line| format!("{}\n", line.text)).collect();
+    let expected = "\
+MO 0 2 2
+RD 0 R 1073741824 201326592
+OK 0 201326592
+WR 0 W 805310464 8192
+NO 7 201326592
+WR 0 D 0
+";
+    assert_eq!(output, expected);
+}
+
 /// The output that the paper prints whole.
 #[test]
 fn printed_output() {

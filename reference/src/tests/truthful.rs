@@ -4,6 +4,7 @@ use std::collections::BTreeSet;
 
 use super::*;
 use crate::disk::truth::{is_true, Shown};
+use crate::generator::failures::{own_record, own_report};
 use crate::generator::random::Random;
 use crate::generator::truthful;
 
@@ -46,12 +47,29 @@ fn a_healthy_sequential_zone_has_any_good_condition() {
             let drawn = draws(&zone(S, L, pointer, kind, own, C));
             let conditions: &[u8] = if pointer == S + C { &[1, 2, 3, 4, 14] } else { &[1, 2, 3, 4] };
             assert_types_and_conditions(&drawn, &[2, 3], conditions);
-            for (at, value) in [(0, S), (8, L), (16, pointer), (32, C)] {
+            for (at, value) in [(0, S), (8, L), (32, C)] {
                 assert_eq!(fields(&drawn, at), BTreeSet::from([value]), "field at {at}");
             }
             assert!(drawn.iter().all(|shown| shown.capacity_given));
+            let (full, others): (Vec<Shown>, Vec<Shown>) =
+                drawn.into_iter().partition(|shown| shown.record[25] == 14);
+            assert_eq!(fields(&others, 16), BTreeSet::from([pointer]));
+            if pointer == S + C {
+                assert_any_pointer(&full);
+            }
         }
     }
+}
+
+/// Asserts that a pointer which means nothing is drawn among all, and those where a mistake would show.
+fn assert_any_pointer(draws: &[Shown]) {
+    let pointers = fields(draws, 16);
+    assert!(pointers.len() > 100, "only {pointers:?}");
+    for pointer in [0, S - 8, S - 1, S, S + 1, S + C - 1, S + C, S + L, u64::MAX] {
+        assert!(pointers.contains(&pointer), "no {pointer}");
+    }
+    let inside = |pointer: &&u64| (S..S + C).contains(*pointer) && **pointer % 8 == 0;
+    assert!(pointers.iter().filter(inside).count() > 20, "too few that a zone could have: {pointers:?}");
 }
 
 #[test]
@@ -59,9 +77,8 @@ fn an_ill_zone_has_any_pointer() {
     for condition in [13, 15] {
         let drawn = draws(&zone(S, L, S + 8, 2, condition, C));
         assert_types_and_conditions(&drawn, &[2, 3], &[condition]);
-        let pointers = fields(&drawn, 16);
-        assert!(pointers.len() > 100, "only {pointers:?}");
-        assert!([0, S, S + 1, S + 8, S + C, u64::MAX].iter().all(|pointer| pointers.contains(pointer)));
+        assert_any_pointer(&drawn);
+        assert!(fields(&drawn, 16).contains(&(S + 8)));
         assert_eq!(fields(&drawn, 32), BTreeSet::from([C]));
     }
 }
@@ -135,6 +152,36 @@ fn a_report_is_as_free_as_a_record() {
 }
 
 #[test]
+fn so_is_a_report_of_a_full_zone() {
+    let mut zones = sheet_zones();
+    zones[3] = zone(S, L, S + C, 2, 14, C);
+    let drawn = shown_in(&reports(&zones), 3);
+    assert_types_and_conditions(&drawn, &[2, 3], &[1, 2, 3, 4, 14]);
+    let (full, others): (Vec<Shown>, Vec<Shown>) =
+        drawn.into_iter().partition(|shown| shown.record[25] == 14);
+    assert_any_pointer(&full);
+    assert_eq!(fields(&others, 16), BTreeSet::from([S + C]));
+}
+
+/// The long run's records and reports: the disk's own type and condition, and any pointer of a full zone.
+#[test]
+fn the_disk_s_own_bytes_have_any_pointer_of_a_full_zone() {
+    let mut random = Random::new(1, 3);
+    let mut zones = sheet_zones();
+    zones[4] = zone(S + L, L, S + L + C, 3, 14, C);
+    let own: Vec<(u8, Vec<u8>)> = (0..2000).map(|_| (1, own_report(&mut random, &zones))).collect();
+    assert!(own.iter().all(|(_, report)| report[12] == 1));
+    let (open, full) = (shown_in(&own, 3), shown_in(&own, 4));
+    assert_types_and_conditions(&open, &[2], &[2]);
+    assert_types_and_conditions(&full, &[3], &[14]);
+    assert_eq!(fields(&open, 16), BTreeSet::from([S + 8]));
+    let pointers = fields(&full, 16);
+    assert!([0, S + L, S + L + C, S + 2 * L, u64::MAX].iter().all(|pointer| pointers.contains(pointer)));
+    zones[3] = zone(S, L, S + C, 2, 14, C);
+    assert_any_pointer(&(0..2000).map(|_| own_record(&mut random, &zones[3])).collect::<Vec<_>>());
+}
+
+#[test]
 fn a_report_without_capacities_where_none_is_needed() {
     let mut zones = sheet_zones();
     zones.iter_mut().for_each(|zone| zone.capacity = zone.length);
@@ -168,15 +215,21 @@ fn true_and_untrue_of_a_healthy_zone() {
         assert!(is_true(&zone(S, L, S + 8, kind, condition, C), &is, 4096));
         assert!(is_true(&zone(S, L, S + C, kind, condition, C), &also_full, 4096));
     }
-    assert!(is_true(&zone(S, L, S + C, 3, 14, C), &also_full, 4096));
+    for pointer in [0, 1, S - 8, S, S + 8, S + C - 8, S + C, S + C + 8, S + L, u64::MAX] {
+        let full = zone(S, L, pointer, 3, 14, C);
+        assert!(is_true(&full, &also_full, 4096), "pointer {pointer}");
+        assert!(!is_true(&full, &is, 4096), "pointer {pointer}");
+        for condition in 1..=4 {
+            let other = zone(S, L, pointer, 3, condition, C);
+            assert_eq!(is_true(&other, &also_full, 4096), pointer == S + C, "pointer {pointer}");
+        }
+    }
     let untrue = [
         zone(S + 8, L, S + 8, 2, 2, C),
         zone(S, L + 8, S + 8, 2, 2, C),
         zone(S, L, S + 8, 2, 2, C - 8),
         zone(S, L, S + 16, 2, 2, C),
         zone(S, L, S, 2, 1, C),
-        zone(S, L, S + 8, 2, 14, C),
-        zone(S, L, S + C, 2, 14, C),
         zone(S, L, S + 8, 2, 0, C),
         zone(S, L, S + 8, 2, 5, C),
         zone(S, L, S + 8, 2, 13, C),

@@ -9,7 +9,7 @@ enum-told-2 : tie.Need-enum-told-2
 enum-told-2 c = search needs
 
 written-size-requires : tie.Need-written-size-requires
-written-size-requires c κs = (c .before .before .pre .bounded, c .before .before .pre .pointing (c .enum-told2 .given .1))
+written-size-requires c κs = (c .before .before .pre .bounded, c .before .before .pre .saying (c .enum-told2 .given .1))
 
 returns : tie.Need-returns
 returns c = search needs

@@ -1,4 +1,4 @@
-use Rattle.types.proofs.Tests.{leb-same, eqb-same}
+use Rattle.types.proofs.Tests.{leb-same}
 use Prim.Native.Nat.{_+_, _-_}
 use native.Mathlib.Omega.{arith}
 use borrow.Author.Tests.{le-leb, lt-leb}
@@ -11,12 +11,11 @@ on-unit-requires c κs = search needs
 
 returns : tie.Need-returns
 returns c =
-    let z = c .before .before .before .before .before .before .before .args .z in
+    let z = c .before .before .before .before .before .args .z in
     rw (
-      c .before .before .before .on-unit .ensures,
+      c .before .on-unit .ensures,
       le-leb (z .start) (z .pointer) (omega arith),
       leb-same (z .pointer - z .start) (z .capacity) (z .pointer) (z .start + z .capacity) (λ h. omega arith) (λ h. omega arith),
-      eqb-same (z .pointer - z .start) (z .capacity) (z .pointer) (z .start + z .capacity) (λ h. omega arith) (λ h. omega arith),
     )
 
 returns-2 : tie.Need-returns-2
