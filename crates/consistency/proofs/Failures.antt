@@ -146,19 +146,19 @@ module _ {b : ℕ} {p : ErrorPolicy} {z : DiskZone} {s : FileHistory} {r : Row} 
   -- the history and the completion ask the same of a failed read
   same-tests : (k : CommandKind) → harmless k new (s .lastSize) ≡ nothingLost Sequential k q (r .size)
   same-tests k =
-      ap (λ n. isRead k && (isHealthy (new .condition) && eqb (s .lastSize) n)) (fresh-size new)
+      ap (λ n. isRead k && (isHealthy (new .condition) && eqb (s .lastSize) n)) (fresh-size new kind)
       ∙ same-test (isRead k) (new .condition) (writtenTo new) (s .lastSize)
       ∙ sym (lost-by w kind k (s .lastSize))
       ∙ ap (λ n. nothingLost Sequential k q n) (sym (row-last l reads))
 
   lasts-healthy : new .condition ≡ Healthy → lastSizeAt true new (s .lastSize) ≡ writtenTo new
-  lasts-healthy h = rw (fresh-size new) (last-healthy (new .condition) (writtenTo new) (s .lastSize) h)
+  lasts-healthy h = rw (fresh-size new kind) (last-healthy (new .condition) (writtenTo new) (s .lastSize) h)
 
   lasts-whole : lastSizeAt true new (s .lastSize) % b ≡ 0
-  lasts-whole = rw (fresh-size new) (last-either (λ n. n % b ≡ 0) (new .condition) (writtenTo new) (s .lastSize) (λ h. whole-size block new (new .pointer) (sound .base) (sound .point kind h)) (l .whole))
+  lasts-whole = rw (fresh-size new kind) (last-either (λ n. n % b ≡ 0) (new .condition) (writtenTo new) (s .lastSize) (λ h. whole-size block new (new .pointer) (sound .base) (sound .point kind h)) (l .whole))
 
   lasts-fits : lastSizeAt true new (s .lastSize) ≤ new .capacity * 512
-  lasts-fits = rw (fresh-size new) (last-either (λ n. n ≤ new .capacity * 512) (new .condition) (writtenTo new) (s .lastSize) (λ h. omega (arith, sound .point kind h)) (rw capacity (l .fits)))
+  lasts-fits = rw (fresh-size new kind) (last-either (λ n. n ≤ new .capacity * 512) (new .condition) (writtenTo new) (s .lastSize) (λ h. omega (arith, sound .point kind h)) (rw capacity (l .fits)))
 
   agrees-new : {t : FileHistory} (x : Row) → x .start ≡ r .start → x .capacity ≡ r .capacity → Live b p new t x → Agrees b p new t x
   agrees-new x e f n = record {
@@ -174,7 +174,7 @@ module _ {b : ℕ} {p : ErrorPolicy} {z : DiskZone} {s : FileHistory} {r : Row} 
   keeps-by : (k : CommandKind) (t : Bool) → nothingLost Sequential k q (r .size) ≡ t
       → Agrees b p new (updated s new true (s .recovered || not t)) (cond t r (recoveredBy p (new .condition) (writtenTo new) r))
   keeps-by k false e = agrees-new (recoveredBy p (new .condition) (writtenTo new) r) refl refl (record {
-    size = rw (or-true (s .recovered), row-last l reads, fresh-size new) (size-recovered p (new .condition) (writtenTo new) (s .lastSize));
+    size = rw (or-true (s .recovered), row-last l reads, fresh-size new kind) (size-recovered p (new .condition) (writtenTo new) (s .lastSize));
     access = rw (or-true (s .recovered), l .access) (access-recovered p (s .recovered) (r .condition) (new .condition) (rw (l .access) at reads) worse);
     intact = λ f. cc (or-true (s .recovered));
     known = λ q. refl;

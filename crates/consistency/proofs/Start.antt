@@ -45,14 +45,14 @@ agrees-at-mount {b} p z block sound kind inner = record { kind = kind; sound = s
 
     by : (h : Condition) → z .condition ≡ h → RowState b p z (atMount z) (shownRow z)
     by Healthy e = live (record {
-      size = sym (fresh-size z);
+      size = sym (fresh-size z kind);
       access = rw e;
       intact = λ f. rw e;
       known = λ f. rw e;
       worse = rw e;
-      last = λ q f. rw (fresh-size z, e);
-      whole = rw (fresh-size z, e) (whole-size block z (z .pointer) (sound .base) (sound .point kind e));
-      fits = rw (fresh-size z, e) (omega (arith, sound .point kind e));
+      last = λ q f. rw (fresh-size z kind, e);
+      whole = rw (fresh-size z kind, e) (whole-size block z (z .pointer) (sound .base) (sound .point kind e));
+      fits = rw (fresh-size z kind, e) (omega (arith, sound .point kind e));
       mounted = rw e;
     })
     by ReadOnly e = unread ReadOnly e refl (λ f. cc)

@@ -60,7 +60,7 @@ module _ {b : ℕ} {p : ErrorPolicy} {z : DiskZone} {s : FileHistory} {r : Row} 
         → Agrees b p (moved z to (z .condition)) (updated s (moved z to (z .condition)) q (s .recovered)) (withSize r v)
     unfolding moved
     keeps-moved to q v at known fresh old whole fits =
-        let lasts : lastSizeAt q (moved z to (z .condition)) (s .lastSize) ≡ v = rw (fresh-size (moved z to (z .condition))) (last-at q (z .condition) ((to - z .start) * 512) (s .lastSize) v fresh old) in
+        let lasts : lastSizeAt q (moved z to (z .condition)) (s .lastSize) ≡ v = rw (fresh-size (moved z to (z .condition)) (a .kind)) (last-at q (z .condition) ((to - z .start) * 512) (s .lastSize) v fresh old) in
         record {
           kind = a .kind;
           sound = sound-moved z (a .sound) to (z .condition) (λ k h. at h);

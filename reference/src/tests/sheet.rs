@@ -1,7 +1,7 @@
 //! The paper's worked example, whole.
 
 use super::*;
-use crate::generator::records::encode;
+use crate::generator::records::{encode, head};
 use crate::player::calls::Reply::{Done, Issued};
 use crate::player::play::play;
 use crate::player::tape::{CallRecord, Record, Verb};
@@ -81,29 +81,31 @@ fn failed_write_into_a_full_zone() {
     assert_eq!(volume.mount.held, None);
 }
 
+/// A call on a sequential file, as a tape has it.
+fn on_tape(verb: Verb, number: u32, offset: u64, length: u64) -> Record<'static> {
+    Record::Call(CallRecord { verb, kind: 1, number, offset, length })
+}
+
+/// What a tape prints that mounts this input and then has these records.
+fn printed(input: &Input, records: &[Record]) -> String {
+    let mut tape = head(input);
+    records.iter().for_each(|record| encode(record, &mut tape));
+    play(&tape).iter().map(|line| format!("{}\n", line.text)).collect()
+}
+
 /// The same two as a tape prints them, with a read that shows the size.
 #[test]
 fn full_zones_on_a_tape() {
     let mut zones = sheet_zones();
     zones[4] = zone(2097152, 524288, 0, 2, 14, 393216);
-    let input = input_with(0, "errors=repair", &zones);
-    let call =
-        |verb, number, offset, length| Record::Call(CallRecord { verb, kind: 1, number, offset, length });
     let full = record(&zone(1572864, 524288, 0, 2, 14, 393216));
     let records = [
-        Record::Block(4096),
-        Record::SuperBlock(&input.super_block),
-        Record::Report(&input.report),
-        Record::Options(b"errors=repair"),
-        call(Verb::Read, 1, 0, 201326592),
+        on_tape(Verb::Read, 1, 0, 201326592),
         Record::Good,
-        call(Verb::Write, 0, 4096, 8192),
+        on_tape(Verb::Write, 0, 4096, 8192),
         Record::Failed(&full),
-        call(Verb::Write, 0, 201326592, 0),
+        on_tape(Verb::Write, 0, 201326592, 0),
     ];
-    let mut tape = Vec::new();
-    records.iter().for_each(|record| encode(record, &mut tape));
-    let output: String = play(&tape).iter().map(|line| format!("{}\n", line.text)).collect();
     let expected = "\
 MO 0 2 2
 RD 0 R 1073741824 201326592
@@ -112,28 +114,19 @@ WR 0 W 805310464 8192
 NO 7 201326592
 WR 0 D 0
 ";
-    assert_eq!(output, expected);
+    assert_eq!(printed(&input_with(0, "errors=repair", &zones), &records), expected);
 }
 
 /// The output that the paper prints whole.
 #[test]
 fn printed_output() {
-    let input = sheet_input();
-    let call = |verb, offset, length| Record::Call(CallRecord { verb, kind: 1, number: 0, offset, length });
     let records = [
-        Record::Block(4096),
-        Record::SuperBlock(&input.super_block),
-        Record::Report(&input.report),
-        Record::Options(b"errors=repair"),
-        call(Verb::Write, 4096, 8192),
+        on_tape(Verb::Write, 0, 4096, 8192),
         Record::Good,
-        call(Verb::Write, 4096, 4096),
-        call(Verb::Truncate, 0, 0),
+        on_tape(Verb::Write, 0, 4096, 4096),
+        on_tape(Verb::Truncate, 0, 0, 0),
         Record::Good,
     ];
-    let mut tape = Vec::new();
-    records.iter().for_each(|record| encode(record, &mut tape));
-    let output: String = play(&tape).iter().map(|line| format!("{}\n", line.text)).collect();
     let expected = "\
 MO 0 2 2
 WR 0 W 805310464 8192
@@ -142,7 +135,7 @@ WR 6
 TR 0 Z 805306368 0
 OK 0 0
 ";
-    assert_eq!(output, expected);
+    assert_eq!(printed(&sheet_input(), &records), expected);
 }
 
 #[test]
