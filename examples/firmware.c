@@ -1,5 +1,6 @@
 /*
- * A small program on the proved library: mounts a volume, appends to a file, has the next append fail halfway, recovers, and goes on.
+ * A small program on the proved library: mounts a volume, appends to a file, has the next append fail halfway, recovers, and goes on. Of the
+ * failure it first hands over another zone's record, to show how a refusal says what is bad.
  * The disk is played by this program: it makes up the super block, the zone report, and the record that comes with the failure. On Linux the
  * bytes that BLKREPORTZONE gives, and those of a zone's record, can be passed on as they come.
  * It prints each step, and ends with status 1 where a step answers otherwise than it should. Build and run: docs/LINKING.md.
@@ -63,6 +64,14 @@ static void make_report(uint8_t *report) {
   make_zone(zones + 4 * ZONEFS_ZONE_BYTES, 4ull * ZONE_SECTORS, 2, 14, CAPACITY_SECTORS, 0);
 }
 
+/* Prints what a refusal has beside its number: two of them say what is bad. */
+static void print_refusal(struct zonefs_volume_answer a) {
+  if (a.number == ZONEFS_BAD_ZONE)
+    printf(" zone %" PRIu32 ":", a.zone);
+  if (a.number == ZONEFS_BAD_ZONE || a.number == ZONEFS_BAD_RECORD)
+    printf(" reason %" PRIu32 ", %s", a.reason, zonefs_volume_reason_text(a.reason));
+}
+
 /* Prints what an answer has beside its number. */
 static void print_values(struct zonefs_volume_answer a) {
   switch (a.outcome) {
@@ -75,7 +84,7 @@ static void print_values(struct zonefs_volume_answer a) {
   case ZONEFS_VOLUME_COMMAND: printf(" %" PRIu32 " %" PRIu64 " %" PRIu64, a.command, a.address, a.length); break;
   case ZONEFS_VOLUME_DONE: printf(" %" PRIu64, a.count); break;
   case ZONEFS_VOLUME_FAILED: printf(" %" PRIu64, a.size); break;
-  case ZONEFS_VOLUME_REFUSED: break;
+  case ZONEFS_VOLUME_REFUSED: print_refusal(a); break;
   }
 }
 
@@ -92,6 +101,13 @@ static void step(const char *what, struct zonefs_volume_answer a, uint64_t expec
 
 static struct zonefs_volume_answer append(uint64_t offset, uint64_t length) {
   return zonefs_volume_write(&volume, ZONEFS_SEQ, 0, offset, length);
+}
+
+/* The append failed, and this is the record of a sequential zone. */
+static struct zonefs_volume_answer append_failed(unsigned zone, unsigned condition, uint64_t pointer) {
+  uint8_t record[ZONEFS_ZONE_BYTES];
+  make_zone(record, (uint64_t)zone * ZONE_SECTORS, 2, condition, CAPACITY_SECTORS, pointer);
+  return zonefs_volume_fail(&volume, record, sizeof(record), ZONEFS_CAPACITY_GIVEN);
 }
 
 static uint64_t size_now(void) {
@@ -123,7 +139,6 @@ static void mount_volume(void) {
 }
 
 int main(void) {
-  uint8_t record[ZONEFS_ZONE_BYTES];
   uint64_t size;
 
   mount_volume();
@@ -136,11 +151,11 @@ int main(void) {
   step("the disk did it", zonefs_volume_complete(&volume), ZONEFS_OK);
   size = size_now();
 
-  /* of the next two blocks only one lands: the record has the pointer behind it */
+  /* of the next two blocks only one lands: the zone's record has the pointer behind it, and that of another zone is refused */
   step("append 8192", append(size, 8192), ZONEFS_OK);
   step("append while it is outstanding", append(size, 8192), ZONEFS_BUSY);
-  make_zone(record, 3ull * ZONE_SECTORS, 2, 2, CAPACITY_SECTORS, 3ull * ZONE_SECTORS + (size + BLOCK) / SECTOR);
-  step("the disk failed halfway", zonefs_volume_fail(&volume, record, sizeof(record), ZONEFS_CAPACITY_GIVEN), ZONEFS_FAILED);
+  step("it failed, with zone 4's record", append_failed(4, 14, 0), ZONEFS_BAD_RECORD);
+  step("the disk failed halfway", append_failed(3, 2, 3ull * ZONE_SECTORS + (size + BLOCK) / SECTOR), ZONEFS_FAILED);
 
   /* the size is what is on the disk, so the rest is appended there */
   step("append where it had been", append(size, 4096), ZONEFS_MISPLACED);

@@ -67,7 +67,7 @@ enum {
   ZONEFS_MISPLACED = 6,           /* seq write off the block, or offset other than the size */
   ZONEFS_FAILED = 7,              /* the disk failed it, and that was digested; one value: the file's new size */
   ZONEFS_NOTHING_OUTSTANDING = 8, /* completion with nothing outstanding */
-  ZONEFS_BAD_RECORD = 9,          /* the failed completion's zone record doesn't fit; the command stays outstanding */
+  ZONEFS_BAD_RECORD = 9,          /* the failed completion's zone record doesn't fit; the command stays outstanding; one value: the reason */
   ZONEFS_IMPOSSIBLE = 10,         /* mount value or tables impossible, or mount words, answer words or tables too short */
   ZONEFS_BAD_BLOCK = 20,          /* block neither 512 nor 4096 */
   ZONEFS_SUPER_LENGTH = 21,       /* super block: length, magic, checksum */
@@ -78,8 +78,25 @@ enum {
   ZONEFS_SUPER_TAIL = 26,         /* nonzero tail */
   ZONEFS_BAD_OPTIONS = 27,        /* options */
   ZONEFS_BAD_REPORT = 28,         /* report header or length */
-  ZONEFS_BAD_ZONE = 29,           /* bad zone; one value: the lowest number of one */
+  ZONEFS_BAD_ZONE = 29,           /* bad zone; two values: the lowest number of one, and the reason */
   ZONEFS_TOO_FEW_ROWS = 30        /* too few rows in the tables for the files of either kind */
+};
+
+/*
+ * The reasons of ZONEFS_BAD_ZONE and ZONEFS_BAD_RECORD: what is bad of the zone, the first of these. A zone of a report is tested for 1 to 7,
+ * and the record of a failure, which may start anywhere, for 0 and 2 to 9. Positions are in sectors, and no sum wraps.
+ */
+enum {
+  ZONEFS_REASON_NO_RECORD = 0,       /* the record is not ZONEFS_ZONE_BYTES long, so it has no field to name */
+  ZONEFS_REASON_START = 1,           /* the first zone does not start at 0, or another not where the one before it ends */
+  ZONEFS_REASON_LENGTH = 2,          /* the length is 0 or not whole blocks */
+  ZONEFS_REASON_CAPACITY = 3,        /* the capacity is 0, not whole blocks, above the length or, in a conventional zone, not the length */
+  ZONEFS_REASON_END = 4,             /* start + length is above 2^40 */
+  ZONEFS_REASON_TYPE = 5,            /* the type is not 1, 2 or 3; condition and pointer are not looked at then */
+  ZONEFS_REASON_CONDITION = 6,       /* the condition is none of its type's: conventional 0, 13, 15; sequential 1 to 4, 13, 14, 15 */
+  ZONEFS_REASON_POINTER = 7,         /* sequential, conditions 1 to 4: the pointer is outside start..start + capacity, or on no block */
+  ZONEFS_REASON_OTHER_ZONE = 8,      /* not this file's zone: seq: another kind, start or capacity; cnv: another kind, or not within the file */
+  ZONEFS_REASON_BETTER_CONDITION = 9 /* the condition is better than the row's of a seq file; from best to worst: healthy, read-only, offline */
 };
 
 /* Kinds of files, as an argument and as a value. */
@@ -119,12 +136,16 @@ enum {
   /* zonefs_fail: 7 */
   ZONEFS_ANSWER_NEW_SIZE = 1,   /* the file's size now */
 
+  /* zonefs_fail: 9 */
+  ZONEFS_ANSWER_RECORD_REASON = 1, /* ZONEFS_REASON_NO_RECORD to ZONEFS_REASON_BETTER_CONDITION */
+
   /* zonefs_mount: 0 */
   ZONEFS_ANSWER_CNV_FILES = 1,
   ZONEFS_ANSWER_SEQ_FILES = 2,
 
   /* zonefs_mount: 29 */
-  ZONEFS_ANSWER_ZONE = 1,       /* the lowest number of a bad zone */
+  ZONEFS_ANSWER_ZONE = 1,        /* the lowest number of a bad zone */
+  ZONEFS_ANSWER_ZONE_REASON = 2, /* ZONEFS_REASON_START to ZONEFS_REASON_POINTER */
 
   /* zonefs_find: 0 */
   ZONEFS_ANSWER_KIND = 1,
@@ -202,8 +223,9 @@ enum { ZONEFS_CAPACITY_GIVEN = 1 };
  * commas, the last counts, and of none errors=remount-ro. The report is one piece from the first zone on, and its length is exactly
  * ZONEFS_HEADER_BYTES + ZONEFS_ZONE_BYTES for each zone that its header counts.
  * Writes the rows of the files to the front of both tables, and the mount words.
- * Returns 0, with two values, the numbers of cnv and of seq files; or 10 (mount or answer words too short), 20 to 30. Refused by 20 to 30, the
- * tables are as they were, and the mount words are all 0, with which every call answers 10 and every completion 8.
+ * Returns 0, with two values, the numbers of cnv and of seq files; or 10 (mount or answer words too short), 20 to 30; 29 with two values, the
+ * lowest number of a bad zone and its reason. Refused by 20 to 30, the tables are as they were, and the mount words are all 0, with which every
+ * call answers 10 and every completion 8.
  */
 uint64_t zonefs_mount(uint64_t block, const uint8_t *superblock, size_t superblock_bytes, const uint8_t *options,
                       size_t options_bytes, const uint8_t *report, size_t report_bytes, uint64_t *cnv, size_t cnv_words,
@@ -262,7 +284,7 @@ uint64_t zonefs_complete(uint64_t *mount, size_t mount_words, uint64_t *cnv, siz
  * capacity_given is 0 where the record states no capacity, and anything else where it does: the flags of the report that the record came
  * with. Reads and writes as zonefs_complete does.
  * Returns 7 with one value, the file's size now, and nothing is outstanding any more; or 8, 9, 10, with nothing changed. A record that is not
- * 64 bytes long answers 9, and so does one that does not fit the file; the command then stays outstanding.
+ * 64 bytes long answers 9, and so does one that does not fit the file, with one value, the reason; the command then stays outstanding.
  */
 uint64_t zonefs_fail(uint64_t *mount, size_t mount_words, uint64_t *cnv, size_t cnv_words, uint64_t *seq, size_t seq_words,
                      const uint8_t *record, size_t record_bytes, uint32_t capacity_given, uint64_t *answer,

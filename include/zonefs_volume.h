@@ -43,7 +43,10 @@ enum zonefs_volume_outcome {
   ZONEFS_VOLUME_SHOWN = 6
 };
 
-/* An answer. The fields that its outcome does not name are 0. */
+/*
+ * An answer. The fields that its outcome does not name are 0. Whether a refusal has a zone and a reason is told by its number, not by the
+ * fields: 0 is a zone's number too, and the reason of a record that is not 64 bytes long.
+ */
 struct zonefs_volume_answer {
   uint64_t number; /* 0, or the refusal's: ZONEFS_NO_FILE to ZONEFS_TOO_FEW_ROWS */
   enum zonefs_volume_outcome outcome;
@@ -55,6 +58,7 @@ struct zonefs_volume_answer {
   uint32_t cnv_files;   /* MOUNTED */
   uint32_t seq_files;   /* MOUNTED */
   uint32_t zone;        /* REFUSED by ZONEFS_BAD_ZONE: the lowest number of a bad zone */
+  uint32_t reason;      /* REFUSED by ZONEFS_BAD_ZONE, ZONEFS_BAD_RECORD: ZONEFS_REASON_NO_RECORD to ZONEFS_REASON_BETTER_CONDITION */
   uint32_t file_kind;   /* FOUND: ZONEFS_CNV or ZONEFS_SEQ */
   uint32_t file_number; /* FOUND */
   uint64_t start;       /* SHOWN: in sectors of 512 bytes */
@@ -94,18 +98,36 @@ static inline const char *zonefs_volume_refusal_text(uint64_t number) {
   }
 }
 
+/* What a reason says of the zone or the record, in a few words. */
+static inline const char *zonefs_volume_reason_text(uint64_t reason) {
+  switch (reason) {
+  case ZONEFS_REASON_NO_RECORD: return "not 64 bytes long";
+  case ZONEFS_REASON_START: return "starts elsewhere than the zone before it ends, or the first not at 0";
+  case ZONEFS_REASON_LENGTH: return "length 0 or not whole blocks";
+  case ZONEFS_REASON_CAPACITY: return "capacity 0, not whole blocks, above the length, or not the length in a conventional zone";
+  case ZONEFS_REASON_END: return "ends above 2^40 sectors";
+  case ZONEFS_REASON_TYPE: return "unknown type";
+  case ZONEFS_REASON_CONDITION: return "a condition that its type does not have";
+  case ZONEFS_REASON_POINTER: return "write pointer outside the capacity or on no block";
+  case ZONEFS_REASON_OTHER_ZONE: return "not this file's zone";
+  case ZONEFS_REASON_BETTER_CONDITION: return "a better condition than the file's";
+  default: return "no reason of this library";
+  }
+}
+
 /* ---- how the plain functions' words become an answer; not for callers */
 
 static inline struct zonefs_volume_answer zonefs_volume_answer_bare(uint64_t number) {
-  struct zonefs_volume_answer a = {number, ZONEFS_VOLUME_REFUSED, 0, 0, 0, 0, 0, 0, 0, 0, 0, 0, 0, 0, 0, 0, 0};
+  struct zonefs_volume_answer a = {number, ZONEFS_VOLUME_REFUSED, 0, 0, 0, 0, 0, 0, 0, 0, 0, 0, 0, 0, 0, 0, 0, 0};
   return a;
 }
 
 static inline struct zonefs_volume_answer zonefs_volume_answer_of_mount(uint64_t number, const uint64_t *words) {
   struct zonefs_volume_answer a = zonefs_volume_answer_bare(number);
-  if (number == ZONEFS_BAD_ZONE)
+  if (number == ZONEFS_BAD_ZONE) {
     a.zone = (uint32_t)words[ZONEFS_ANSWER_ZONE];
-  if (number == ZONEFS_OK) {
+    a.reason = (uint32_t)words[ZONEFS_ANSWER_ZONE_REASON];
+  } else if (number == ZONEFS_OK) {
     a.outcome = ZONEFS_VOLUME_MOUNTED;
     a.cnv_files = (uint32_t)words[ZONEFS_ANSWER_CNV_FILES];
     a.seq_files = (uint32_t)words[ZONEFS_ANSWER_SEQ_FILES];
@@ -143,6 +165,8 @@ static inline struct zonefs_volume_answer zonefs_volume_answer_of_call(uint64_t 
   if (number == ZONEFS_FAILED) {
     a.outcome = ZONEFS_VOLUME_FAILED;
     a.size = words[ZONEFS_ANSWER_NEW_SIZE];
+  } else if (number == ZONEFS_BAD_RECORD) {
+    a.reason = (uint32_t)words[ZONEFS_ANSWER_RECORD_REASON];
   } else if (number == ZONEFS_OK && words[ZONEFS_ANSWER_VALUES] == ZONEFS_COMMANDED) {
     a.outcome = ZONEFS_VOLUME_COMMAND;
     a.command = (uint32_t)words[ZONEFS_ANSWER_COMMAND];
@@ -186,7 +210,7 @@ static inline void zonefs_volume_lend(struct zonefs_volume *volume, uint64_t *cn
   volume->seq_words = seq_words;
 }
 
-/* MOUNTED, or refused by 20 to 30. The options are a C string, "" for none. */
+/* MOUNTED, or refused by 20 to 30, by 29 with zone and reason. The options are a C string, "" for none. */
 static inline struct zonefs_volume_answer zonefs_volume_mount(struct zonefs_volume *volume, uint64_t block,
                                                               const void *superblock, size_t superblock_bytes,
                                                               const char *options, const void *report, size_t report_bytes) {
@@ -250,9 +274,9 @@ static inline struct zonefs_volume_answer zonefs_volume_complete(struct zonefs_v
 }
 
 /*
- * The outstanding command failed: FAILED, or refused by 8, 9, 10. The record is that of the zone at the command's address, as it is after
- * the failure: a struct blk_zone as it comes, or any 64 bytes laid out like it; capacity_given is the flags of the report that it came
- * with.
+ * The outstanding command failed: FAILED, or refused by 8, 9 with a reason, 10. The record is that of the zone at the command's address, as
+ * it is after the failure: a struct blk_zone as it comes, or any 64 bytes laid out like it; capacity_given is the flags of the report that it
+ * came with.
  */
 static inline struct zonefs_volume_answer zonefs_volume_fail(struct zonefs_volume *volume, const void *record,
                                                              size_t record_bytes, uint32_t capacity_given) {

@@ -1,7 +1,8 @@
 /*
  * Compares the functions of zonefs_volume.h with the plain ones of zonefs.h, call by call, on a small volume: every number that the library
- * has, each command, and answers at once. Of each answer all fields are compared, and all words and rows that both leave. Words of answers
- * are counted out here, not named, so that a wrong name in the header shows. C99 and C++11. Ends with status 1 at the first difference.
+ * has, every reason of 29 and 9, each command, and answers at once. Of each answer all fields are compared, and all words and rows that
+ * both leave. Words of answers are counted out here, not named, so that a wrong name in the header shows. C99 and C++11. Ends with status 1
+ * at the first difference.
  */
 #include <stdio.h>
 #include <stdlib.h>
@@ -29,7 +30,7 @@ static size_t cnv_words, seq_words;
 static struct zonefs_volume volume;
 
 static uint8_t super_block[4096], report[16 + 6 * 64], record[65];
-static unsigned compared, seen[31], at_once, commands[5];
+static unsigned compared, seen[31], at_once, commands[5], zone_reasons[10], record_reasons[10];
 
 /* ---- the disk's bytes */
 
@@ -113,6 +114,7 @@ static struct zonefs_volume_answer by_words(enum function f, uint64_t number) {
   a.outcome = number == 7 ? ZONEFS_VOLUME_FAILED : ZONEFS_VOLUME_REFUSED;
   a.size = number == 7 ? words[1] : 0;
   a.zone = number == 29 ? (uint32_t)words[1] : 0;
+  a.reason = number == 29 ? (uint32_t)words[2] : number == 9 ? (uint32_t)words[1] : 0;
   if (number == 0 && f == MOUNT) {
     a.outcome = ZONEFS_VOLUME_MOUNTED;
     a.cnv_files = (uint32_t)words[1];
@@ -134,7 +136,8 @@ static void compare(const char *what, enum function f, uint64_t number, struct z
   struct zonefs_volume_answer a = by_words(f, number);
   need(number == expected, what, "another number than expected");
   need(got.number == a.number && got.outcome == a.outcome, what, "number or outcome");
-  need(got.count == a.count && got.size == a.size && got.zone == a.zone, what, "count, size or zone");
+  need(got.count == a.count && got.size == a.size, what, "count or size");
+  need(got.zone == a.zone && got.reason == a.reason, what, "zone or reason");
   need(got.command == a.command && got.address == a.address && got.length == a.length, what, "the command");
   need(got.cnv_files == a.cnv_files && got.seq_files == a.seq_files, what, "the numbers of files");
   need(got.file_kind == a.file_kind && got.file_number == a.file_number, what, "the file found");
@@ -247,11 +250,38 @@ static void try_refused_mounts(void) {
   mount_as("tail", "", 26);
   mount_as("options", "errors=none", 27);
   mount_of("report's length", BLOCK, 4096, "", sizeof(report) - 1, 28);
-  report[16 + 4 * 64 + 24] = 0;
-  mount_as("bad zone", "", 29);
   lend(CNV_WORDS, SEQ_WORDS - 1);
   mount_as("too few rows", "", 30);
   lend(CNV_WORDS, SEQ_WORDS);
+}
+
+/* A field of a zone, by its first byte and its bytes, with a value that makes the zone bad, and the reason that this has. */
+struct bad_field {
+  const char *what;
+  unsigned zone, at, count;
+  uint64_t value, reason;
+};
+
+/* 29 has two values. Here they are never the same number, so that one in the other's place shows. */
+static void try_bad_zones(void) {
+  static const struct bad_field fields[] = {
+      {"zone's start", 5, 0, 8, 5 * LENGTH + 8, 1},
+      {"zone's length", 4, 8, 8, LENGTH - 4, 2},
+      {"zone's capacity", 5, 32, 8, LENGTH + 8, 3},
+      {"conventional zone's capacity", 2, 32, 8, CAPACITY, 3},
+      {"zone's end", 5, 8, 8, (uint64_t)1 << 40, 4},
+      {"zone's type", 4, 24, 1, 0, 5},
+      {"zone's condition", 1, 25, 1, 1, 6},
+      {"zone's pointer", 3, 16, 8, 3 * LENGTH + 1, 7},
+  };
+  size_t i;
+  for (i = 0; i < sizeof(fields) / sizeof(fields[0]); i++) {
+    const struct bad_field *f = &fields[i];
+    put(report + 16 + f->zone * 64 + f->at, f->value, f->count);
+    mount_as(f->what, "", 29);
+    need(words[0] == 2 && words[1] == f->zone && words[2] == f->reason, f->what, "another zone or reason than expected");
+    zone_reasons[words[2]]++;
+  }
 }
 
 static void try_calls(void) {
@@ -284,13 +314,42 @@ static void try_calls(void) {
   show(1, 0, 0);
 }
 
+/* 9 has one value. */
+static void refuse_record(const char *what, size_t bytes, uint32_t given, uint64_t reason) {
+  fail(bytes, given, 9);
+  need(words[0] == 1 && words[1] == reason, what, "another reason than expected");
+  record_reasons[words[1]]++;
+}
+
+/* the outstanding command is one on zone 3 */
+static void try_bad_records(void) {
+  static const struct bad_field fields[] = {
+      {"record's length", 3, 8, 8, LENGTH - 4, 2},
+      {"record's capacity", 3, 32, 8, LENGTH + 8, 3},
+      {"record's end", 3, 8, 8, (uint64_t)1 << 40, 4},
+      {"record's type", 3, 24, 1, 9, 5},
+      {"record's condition", 3, 25, 1, 5, 6},
+      {"record's pointer", 3, 16, 8, 3 * LENGTH + 1, 7},
+      {"record with another start", 3, 0, 8, 3 * LENGTH + 8, 8},
+      {"record with another capacity", 3, 32, 8, CAPACITY - 8, 8},
+  };
+  size_t i;
+  for (i = 0; i < sizeof(fields) / sizeof(fields[0]); i++) {
+    const struct bad_field *f = &fields[i];
+    make_zone(record, f->zone, 2, 2, CAPACITY, 16);
+    put(record + f->at, f->value, f->count);
+    refuse_record(f->what, 64, 1, f->reason);
+  }
+}
+
 static void try_failures(void) {
   mount_as("mount", "errors=remount-ro", 0);
   write_of(1, 0, BLOCK, 2 * BLOCK, 0);
+  try_bad_records();
   make_zone(record, 3, 2, 2, CAPACITY, 16);
-  fail(63, 1, 9);
-  fail(65, 1, 9);
-  fail(64, 0, 9); /* then the capacity is the length, which is not the row's */
+  refuse_record("short record", 63, 1, 0);
+  refuse_record("long record", 65, 1, 0);
+  refuse_record("record without a capacity", 64, 0, 8); /* then it is the length, which is not the row's */
   lend(CNV_WORDS, SEQ_WORDS - 1);
   complete(10);
   fail(64, 1, 10);
@@ -304,6 +363,11 @@ static void try_failures(void) {
   show(1, 0, 0);
   write_of(1, 0, 2 * BLOCK, BLOCK, 3);
   read_of(1, 0, 0, BLOCK, 0);
+  make_zone(record, 3, 2, 13, CAPACITY, 0);
+  fail(64, 1, 7);
+  read_of(1, 0, 0, BLOCK, 0);
+  make_zone(record, 3, 2, 2, CAPACITY, 16);
+  refuse_record("record with a better condition", 64, 1, 9);
   make_zone(record, 3, 2, 15, CAPACITY, 0);
   fail(64, 1, 7);
   show(1, 0, 0);
@@ -327,6 +391,21 @@ static void check_numbers(void) {
   need(at_once > 0, "at once", "was not seen");
 }
 
+/* each reason was seen, where it can be, and has a text of its own */
+static void check_reasons(void) {
+  const char *none = zonefs_volume_reason_text(UINT64_MAX);
+  unsigned i, j;
+  need(strcmp(zonefs_volume_reason_text(10), none) == 0, "texts", "10 is no reason");
+  for (i = 0; i < 10; i++) {
+    const char *text = zonefs_volume_reason_text(i);
+    need((zone_reasons[i] > 0) == (i >= 1 && i <= 7), "reasons", "one of a zone was not seen");
+    need((record_reasons[i] > 0) == (i != 1), "reasons", "one of a record was not seen");
+    need(strcmp(text, none) != 0, "texts", "a reason has none");
+    for (j = 0; j < i; j++)
+      need(strcmp(text, zonefs_volume_reason_text(j)) != 0, "texts", "two reasons have the same");
+  }
+}
+
 int main(void) {
   make_super_block();
   make_report();
@@ -340,9 +419,11 @@ int main(void) {
   lend(CNV_WORDS, SEQ_WORDS);
   try_unmounted();
   try_refused_mounts();
+  try_bad_zones();
   try_calls();
   try_failures();
   check_numbers();
+  check_reasons();
   printf("volume in " LANGUAGE ": %u answers, as the plain functions give them\n", compared);
   return 0;
 }

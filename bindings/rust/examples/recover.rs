@@ -1,9 +1,10 @@
-//! Mounts a volume, appends to a file, has the next append fail halfway, recovers, and goes on, as examples/firmware.c does.
+//! Mounts a volume, appends to a file, has the next append fail halfway, recovers, and goes on, as examples/firmware.c does. Before that a
+//! report with a bad zone is refused, and says what is bad.
 //! The disk is played by this program. It prints each step, and ends with status 1 where a step answers otherwise than it should.
 
 use std::error::Error;
 
-use zonefs::{checksum, words, Command, FileId, Refusal, Reply, Source, Volume, EMPTY_ROW};
+use zonefs::{checksum, words, Command, FileId, Reason, Refusal, Reply, Source, Volume, EMPTY_ROW};
 
 const BLOCK: u64 = 4096;
 const SECTOR: u64 = 512;
@@ -77,6 +78,13 @@ fn put(bytes: &mut [u8], at: usize, value: &[u8]) {
 
 type Mounted = Volume<[zonefs::RowWords; 4]>;
 
+fn mount(disk: &Disk) -> Result<Mounted, Refusal> {
+    let (super_block, report) = (Disk::super_block(), disk.report());
+    let source =
+        Source { block: BLOCK, super_block: &super_block, options: b"errors=repair", report: &report };
+    Volume::mount(&source, [EMPTY_ROW; 4], [EMPTY_ROW; 4])
+}
+
 /// Appends as a driver does: asks, has the disk do the command, and says how that went. Gives the bytes appended.
 fn append(volume: &mut Mounted, disk: &mut Disk, file: FileId, length: u64) -> Result<u64, Refusal> {
     let size = volume.show(file)?.size;
@@ -100,14 +108,16 @@ fn step(what: &str, answer: Result<u64, Refusal>, expected: Result<u64, Refusal>
 }
 
 fn main() -> Result<(), Box<dyn Error>> {
-    // seq/0 has one block, seq/1 is full.
+    // A pointer that lies before its zone: the refusal names the zone and the field.
     let start = |zone: u64| zone * ZONE_SECTORS;
+    let astray = Disk { pointers: [start(3) - BLOCK / SECTOR, start(4)], fails_after: None };
+    let bad_zone = Refusal::BadZone { zone: 3, reason: Reason::Pointer };
+    step("mount with a pointer astray", mount(&astray).map(|_| 0), Err(bad_zone))?;
+
+    // seq/0 has one block, seq/1 is full.
     let pointers = [start(3) + BLOCK / SECTOR, start(4) + CAPACITY_SECTORS];
     let mut disk = Disk { pointers, fails_after: None };
-    let (super_block, report) = (Disk::super_block(), disk.report());
-    let source =
-        Source { block: BLOCK, super_block: &super_block, options: b"errors=repair", report: &report };
-    let mut volume = Volume::mount(&source, [EMPTY_ROW; 4], [EMPTY_ROW; 4])?;
+    let mut volume = mount(&disk)?;
     let value = volume.value().ok_or("a mount gives a mount value")?;
     println!("mounted: {} cnv files, {} seq files", value.cnv_files, value.seq_files);
 

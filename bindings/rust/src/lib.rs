@@ -3,8 +3,8 @@
 //! and then says how that went.
 //!
 //! A file is a zone, or a run of zones: `cnv/0`, `cnv/1`, .. in conventional zones, `seq/0`, .. in sequential ones, which are written
-//! at their end only. [`Volume`] has the calls; [`Refusal`] is every way to say no, with the scope paper's numbers; [`words`] has the
-//! functions of `include/zonefs.h` as they are, on slices.
+//! at their end only. [`Volume`] has the calls; [`Refusal`] is every way to say no, with the scope paper's numbers, and [`Reason`] what is
+//! bad of a zone; [`words`] has the functions of `include/zonefs.h` as they are, on slices.
 //!
 //! ```
 //! use zonefs::{FileId, Refusal, Reply, Source, Volume, EMPTY_ROW};
@@ -51,6 +51,7 @@
 #![deny(unsafe_op_in_unsafe_fn)]
 
 mod codes;
+mod reason;
 mod refusal;
 mod values;
 mod volume;
@@ -60,6 +61,7 @@ pub mod words;
 mod tests;
 
 pub use codes::{Access, CommandKind, Condition, FileKind, Policy};
+pub use reason::Reason;
 pub use refusal::Refusal;
 pub use values::{Command, File, FileId, MountValue, Reply, Source};
 pub use volume::{RowWords, Volume, EMPTY_ROW};

@@ -2,12 +2,22 @@
 
 use core::fmt;
 
-use crate::words::{ANSWER_NEW_SIZE, ANSWER_WORDS, ANSWER_ZONE};
+use crate::reason::Reason;
+use crate::words::{ANSWER_NEW_SIZE, ANSWER_RECORD_REASON, ANSWER_WORDS, ANSWER_ZONE, ANSWER_ZONE_REASON};
 
-/// Defines the refusals from one list: number, name, the value that comes with it and where it stands in the answer words,
-/// the name in the header, and the text.
+/// A value that is the word itself.
+const fn word(word: u64) -> u64 {
+    word
+}
+
+/// Defines the refusals from one list: number, name, the values that come with it, how each is read and from which of the answer
+/// words, the name in the header, and the text.
 macro_rules! refusals {
-    ($($number:literal $case:ident $({ $(#[$what:meta])* $value:ident: $at:ident })?, $header:ident, $text:literal;)*) => {
+    ($(
+        $number:literal $case:ident
+        $({ $($(#[$what:meta])* $value:ident: $type:ty = $read:path, $at:ident;)* })?,
+        $header:ident, $text:literal;
+    )*) => {
         /// Why the library refuses. The numbers are those of the scope paper and of `include/zonefs.h`.
         ///
         /// All but [`Refusal::Failed`] change nothing.
@@ -17,7 +27,7 @@ macro_rules! refusals {
         pub enum Refusal {
             $(
                 #[doc = concat!("Number ", $number, ": ", $text, ".")]
-                $case $({ $(#[$what])* $value: u64 })? = $number,
+                $case $({ $($(#[$what])* $value: $type,)* })? = $number,
             )*
         }
 
@@ -25,14 +35,14 @@ macro_rules! refusals {
             /// The number, as the functions of [`words`](crate::words) return it.
             pub const fn number(self) -> u64 {
                 match self {
-                    $(Refusal::$case $({ $value: _ })? => $number,)*
+                    $(Refusal::$case $({ $($value: _,)* })? => $number,)*
                 }
             }
 
-            /// The refusal of a number, with its value from the answer words; `None` for a number that is none's.
+            /// The refusal of a number, with its values from the answer words; `None` for a number that is none's.
             pub const fn from_answer(number: u64, answer: &[u64; ANSWER_WORDS]) -> Option<Refusal> {
                 match number {
-                    $($number => Some(Refusal::$case $({ $value: answer[$at] })?),)*
+                    $($number => Some(Refusal::$case $({ $($value: $read(answer[$at]),)* })?),)*
                     _ => None,
                 }
             }
@@ -42,7 +52,7 @@ macro_rules! refusals {
             fn fmt(&self, formatter: &mut fmt::Formatter<'_>) -> fmt::Result {
                 write!(formatter, "{}: ", self.number())?;
                 match self {
-                    $(Refusal::$case $({ $value })? => write!(formatter, $text),)*
+                    $(Refusal::$case $({ $($value,)* })? => write!(formatter, $text),)*
                 }
             }
         }
@@ -61,10 +71,13 @@ refusals! {
     6 Misplaced, MISPLACED, "a seq file is written at its size only, and in whole blocks";
     7 Failed {
         /// The file's size now, in bytes.
-        size: ANSWER_NEW_SIZE
+        size: u64 = word, ANSWER_NEW_SIZE;
     }, FAILED, "the disk failed the command, and the file has {size} bytes now";
     8 NothingOutstanding, NOTHING_OUTSTANDING, "no command is outstanding";
-    9 BadRecord, BAD_RECORD, "the zone record doesn't fit the file, so the command stays outstanding";
+    9 BadRecord {
+        /// What is bad of the record.
+        reason: Reason = Reason::from_code, ANSWER_RECORD_REASON;
+    }, BAD_RECORD, "the zone record doesn't fit the file, so the command stays outstanding: {reason}";
     10 Impossible, IMPOSSIBLE, "the mount value or a table is impossible";
     20 BadBlock, BAD_BLOCK, "the block is neither 512 nor 4096";
     21 SuperLength, SUPER_LENGTH, "the super block is not 4096 bytes long";
@@ -77,8 +90,10 @@ refusals! {
     28 BadReport, BAD_REPORT, "the report's header or length is wrong";
     29 BadZone {
         /// The lowest number of a bad zone.
-        zone: ANSWER_ZONE
-    }, BAD_ZONE, "zone {zone} of the report is bad";
+        zone: u64 = word, ANSWER_ZONE;
+        /// What is bad of it.
+        reason: Reason = Reason::from_code, ANSWER_ZONE_REASON;
+    }, BAD_ZONE, "zone {zone} of the report is bad: {reason}";
     30 TooFewRows, TOO_FEW_ROWS, "a table has too few rows for the files";
 }
 

@@ -3,8 +3,8 @@
 use std::collections::BTreeMap;
 
 use crate::words::{ANSWER_WORDS, CONSTANTS, FUNCTIONS, MOUNT_WORDS};
-use crate::{codes, refusal};
-use crate::{FileId, FileKind, MountValue, Policy, Refusal};
+use crate::{codes, reason, refusal};
+use crate::{FileId, FileKind, MountValue, Policy, Reason, Refusal};
 
 /// The header without its comments.
 fn header() -> String {
@@ -28,7 +28,7 @@ fn header_constants() -> BTreeMap<String, u64> {
 #[test]
 fn constants_are_the_headers() {
     let ours: BTreeMap<&str, u64> =
-        [CONSTANTS, codes::CODES, refusal::NUMBERS].into_iter().flatten().copied().collect();
+        [CONSTANTS, codes::CODES, reason::REASONS, refusal::NUMBERS].into_iter().flatten().copied().collect();
     let theirs = header_constants();
     for (name, value) in &theirs {
         assert_eq!(ours.get(name.as_str()), Some(value), "ZONEFS_{name}");
@@ -101,7 +101,7 @@ fn functions_are_the_headers() {
 
 #[test]
 fn refusals_have_the_papers_numbers_and_keep_their_values() {
-    let answer = [1, 77, 0, 0, 0, 0, 0];
+    let answer = [2, 77, 6, 0, 0, 0, 0];
     let numbers: Vec<u64> =
         (0..=100).filter(|&number| Refusal::from_answer(number, &answer).is_some()).collect();
     assert_eq!(numbers, [1, 2, 3, 4, 5, 6, 7, 8, 9, 10, 20, 21, 22, 23, 24, 25, 26, 27, 28, 29, 30]);
@@ -109,19 +109,49 @@ fn refusals_have_the_papers_numbers_and_keep_their_values() {
         assert_eq!(Refusal::from_answer(number, &answer).map(Refusal::number), Some(number));
     }
     assert_eq!(Refusal::from_answer(7, &answer), Some(Refusal::Failed { size: 77 }));
-    assert_eq!(Refusal::from_answer(29, &answer), Some(Refusal::BadZone { zone: 77 }));
+    assert_eq!(
+        Refusal::from_answer(29, &answer),
+        Some(Refusal::BadZone { zone: 77, reason: Reason::Condition })
+    );
+    assert_eq!(
+        Refusal::from_answer(9, &[1, 8, 0, 0, 0, 0, 0]),
+        Some(Refusal::BadRecord { reason: Reason::OtherZone })
+    );
+    assert_eq!(
+        Refusal::from_answer(9, &[0; ANSWER_WORDS]),
+        Some(Refusal::BadRecord { reason: Reason::NoRecord })
+    );
     assert_eq!(Refusal::from_answer(30, &[0; ANSWER_WORDS]), Some(Refusal::TooFewRows));
 }
 
 #[test]
 fn refusals_are_errors_with_a_text() {
-    let error: Box<dyn std::error::Error> = Box::new(Refusal::BadZone { zone: 3 });
-    assert_eq!(error.to_string(), "29: zone 3 of the report is bad");
+    let bad_zone = Refusal::BadZone { zone: 3, reason: Reason::Pointer };
+    let error: Box<dyn std::error::Error> = Box::new(bad_zone);
+    assert_eq!(error.to_string(), "29: zone 3 of the report is bad: its write pointer");
+    assert_eq!(
+        Refusal::BadRecord { reason: Reason::OtherZone }.to_string(),
+        "9: the zone record doesn't fit the file, so the command stays outstanding: it isn't of the file's zone"
+    );
     assert_eq!(
         Refusal::Failed { size: 8192 }.to_string(),
         "7: the disk failed the command, and the file has 8192 bytes now"
     );
     assert_eq!(Refusal::Busy.to_string(), "2: a command is outstanding");
+}
+
+/// A reason that has no name here keeps its code, so that nothing of an answer is lost.
+#[test]
+fn reasons_keep_their_code() {
+    let named: Vec<u64> = (0..100).filter(|&code| Reason::from_code(code) != Reason::Other(code)).collect();
+    assert_eq!(named, [0, 1, 2, 3, 4, 5, 6, 7, 8, 9]);
+    for code in (0..100).chain([u64::MAX]) {
+        assert_eq!(Reason::from_code(code).code(), code);
+    }
+    assert_eq!(Reason::from_code(3), Reason::Capacity);
+    assert_eq!(Reason::from_code(12).to_string(), "reason 12");
+    let unknown = Refusal::from_answer(29, &[2, 5, 12, 0, 0, 0, 0]);
+    assert_eq!(unknown, Some(Refusal::BadZone { zone: 5, reason: Reason::Other(12) }));
 }
 
 #[test]

@@ -24,7 +24,8 @@ pub struct Volume<T> {
 }
 
 impl<T: AsRef<[RowWords]> + AsMut<[RowWords]>> Volume<T> {
-    /// Mounts. Writes a row for each file to the front of both tables. Refused, they are as they were; refusals are 20 to 30.
+    /// Mounts. Writes a row for each file to the front of both tables. Refused, they are as they were; refusals are 20 to 30, 29 with
+    /// the lowest bad zone and what is bad of it.
     pub fn mount(source: &Source<'_>, mut cnv: T, mut seq: T) -> Result<Volume<T>, Refusal> {
         let Source { block, super_block, options, report } = *source;
         let mut mount = [0; MOUNT_WORDS];
@@ -125,8 +126,8 @@ impl<T: AsRef<[RowWords]> + AsMut<[RowWords]>> Volume<T> {
     /// `record` is the 64 bytes of the zone at the command's address as it is after the failure, a `struct blk_zone` of Linux as it
     /// comes, a full zone's too; `capacity_given` is the flag of the report that it came with.
     ///
-    /// This is always a refusal: [`Refusal::Failed`] with the file's size now, and nothing is outstanding any more; or 8, 9 or
-    /// 10, and nothing is changed. So a driver can answer for a whole command with
+    /// This is always a refusal: [`Refusal::Failed`] with the file's size now, and nothing is outstanding any more; or 8, 9 with what is
+    /// bad of the record, or 10, and nothing is changed. So a driver can answer for a whole command with
     /// `if done { volume.complete() } else { Err(volume.fail(&record, true)) }`.
     #[must_use]
     pub fn fail(&mut self, record: &[u8], capacity_given: bool) -> Refusal {

@@ -7,7 +7,7 @@
 //!
 //! [`Volume`](crate::Volume) has the same functions with types; most programs want that. Codes in words are those of the
 //! enums [`FileKind`](crate::FileKind), [`CommandKind`](crate::CommandKind), [`Condition`](crate::Condition),
-//! [`Access`](crate::Access) and [`Policy`](crate::Policy).
+//! [`Access`](crate::Access), [`Policy`](crate::Policy) and [`Reason`](crate::Reason).
 
 /// A slice as C takes it: a pointer, and the number of elements behind it.
 trait Lent {
@@ -67,7 +67,8 @@ macro_rules! functions {
 
 functions! {
     /// Mounts: fills the front of both tables with a row for each file, and the mount words. Answers 0 with the numbers of
-    /// cnv and of seq files; or 10, 20 to 30. Refused by 20 to 30, the tables are as they were and the mount words are all 0.
+    /// cnv and of seq files; or 10, 20 to 30, 29 with the lowest number of a bad zone and its reason. Refused by 20 to 30, the tables
+    /// are as they were and the mount words are all 0.
     fn mount = zonefs_mount(
         block: u64,
         [superblock: &[u8]],
@@ -153,7 +154,7 @@ functions! {
     ) -> u64;
 
     /// The outstanding command failed. `record` is that of the zone at the command's address as it is now, and
-    /// `capacity_given` is 0 where it states no capacity. Answers 7 with the file's size now; or 8, 9, 10.
+    /// `capacity_given` is 0 where it states no capacity. Answers 7 with the file's size now; or 8, 9 with a reason, 10.
     fn fail = zonefs_fail(
         [mount: &mut [u64]],
         [cnv: &mut [u64]],
@@ -232,12 +233,16 @@ constants! {
     ANSWER_LENGTH: usize = 3;
     /// A failure digested, number 7: the file's size now.
     ANSWER_NEW_SIZE: usize = 1;
+    /// A record refused by 9: the reason.
+    ANSWER_RECORD_REASON: usize = 1;
     /// A mount: how many cnv files there are.
     ANSWER_CNV_FILES: usize = 1;
     /// A mount: how many seq files there are.
     ANSWER_SEQ_FILES: usize = 2;
     /// A mount refused by 29: the lowest number of a bad zone.
     ANSWER_ZONE: usize = 1;
+    /// A mount refused by 29: the reason.
+    ANSWER_ZONE_REASON: usize = 2;
     /// A name found: the file's kind.
     ANSWER_KIND: usize = 1;
     /// A name found: the file's number.

@@ -7,17 +7,17 @@ ghost use Prim.Native.Nat.{ℕ, _≤_};
 ghost use lib.Dec.{eqb};
 ghost use lib.ListN.{length};
 ghost use Rattle.types.specs.declared.Call.{Call};
+ghost use Rattle.types.specs.Numbers.{answerNumber, answerValues};
 ghost use Rattle.completion.specs.Completions.{Completion, completionOf, completionBy};
 ghost use Rattle.mount_words.specs.Words.{mountLength};
-ghost use Rattle.answer_words.specs.Answers.{answerLength};
+ghost use Rattle.answer_words.specs.Answers.{answerLength, answerWords, written};
 ghost use Rattle.engine.specs.Engine.{Input};
-ghost use Rattle.engine.specs.Facts.{stepOf};
-ghost use Rattle.capi.specs.Interface.{told, usable, stepWords, toldFound, findWords, toldShown, showWords, roomy, toldMounted, mountGiven};
+ghost use Rattle.capi.specs.Interface.{usable, stepWords, toldFound, findWords, toldShown, showWords, roomy, toldMounted, mountGiven};
 ghost use Rattle.crc32.specs.Crc.{crc32};
+use types::Answer;
 use types::Call;
 use types::FindAnswer;
 use types::MountOutcome;
-use types::Outcome;
 use types::ShowAnswer;
 
 // "mount value or tables impossible"
@@ -31,14 +31,12 @@ fn is_usable(w: &[u64], room: usize) -> bool
     mount_words::is_possible(w) & (answer_words::ANSWER_WORDS <= room)
 }
 
-// Puts an outcome into the words, and gives its number.
-fn tell(w: &mut [u64], a: &mut [u64], o: Outcome) -> u64
-    requires { ⌜ (mountLength ≤ length (now w)) × (answerLength ≤ length (now a)) ⌝ }
-    ensures { λ r. ⌜ ((cnv seq : List ℕ) → told (now (w .entry)) (now (a .entry)) (stepOf o cnv seq) ≡ record { number = r; mount = now (w .exit); cnv = cnv; seq = seq; answer = now (a .exit) }) ⌝ }
+// Puts an answer into its words, and gives its number. The mount's words are put by the callers: with both in one function the whole outcome
+// would be handed over in memory.
+fn tell(a: &mut [u64], x: Answer) -> u64
+    requires { ⌜ answerLength ≤ length (now a) ⌝ }
+    ensures { λ r. ⌜ (answerNumber x ≡ r) × (written (now (a .entry)) (answerWords (answerValues x)) ≡ now (a .exit)) ⌝ }
 {
-    let m = o.mount;
-    let x = o.answer;
-    mount_words::put_state(w, m);
     answer_words::put_values(a, answer_words::answer_values(x));
     types::answers::answer_number(x)
 }
@@ -59,7 +57,11 @@ fn call(
         return IMPOSSIBLE;
     }
     let m = mount_words::mount_from(&w[..]);
-    tell(w, a, engine::call(m, cnv, seq, kind as u64, number, x))
+    let o = engine::call(m, cnv, seq, kind as u64, number, x);
+    let after = o.mount;
+    let reply = o.answer;
+    mount_words::put_state(w, after);
+    tell(a, reply)
 }
 
 #[no_mangle]
@@ -139,7 +141,11 @@ fn end_command(
         return IMPOSSIBLE;
     }
     let m = mount_words::mount_from(&w[..]);
-    tell(w, a, engine::end_command(m, cnv, seq, done, bytes, given))
+    let o = engine::end_command(m, cnv, seq, done, bytes, given);
+    let after = o.mount;
+    let reply = o.answer;
+    mount_words::put_state(w, after);
+    tell(a, reply)
 }
 
 // The outstanding command was done well.

@@ -8,6 +8,7 @@ use Rattle.types.specs.declared.Mount.{Mount}
 use Rattle.types.specs.declared.Row.{Row}
 use Rattle.types.specs.declared.Held.{Held}
 use Rattle.types.specs.declared.Refusal.the-variants as refusal
+use Rattle.types.specs.declared.ZoneFault.the-variants as fault
 use Rattle.types.specs.declared.Answer.the-variants.{Refused, Done}
 use Rattle.types.specs.declared.ErrorPolicy.{ErrorPolicy}
 use Rattle.types.specs.declared.ErrorPolicy.the-variants.{RemountRo, ZoneRo, ZoneOffline, Repair}
@@ -19,7 +20,7 @@ use Rattle.types.specs.Mounts.{cleared, readOnly}
 use Rattle.zones.specs.declared.Zone.{Zone}
 use Rattle.zones.specs.Zone.{zoneBytes, zoneAt}
 use Rattle.recovery.specs.Success.{rowAfter}
-use Rattle.recovery.specs.Fits.{recordFits}
+use Rattle.recovery.specs.Fits.{recordFits, misfit}
 use Rattle.recovery.specs.Recovery.{nothingLost, recoveredRow}
 use Rattle.held.specs.declared.Pending.{Pending}
 use Rattle.held.specs.declared.Pending.the-variants as pending
@@ -75,11 +76,13 @@ recovered m h r z =
 
 -- ---- "Checks: 8, 10, and on failure 9."
 
--- "Else 9, and the command stays outstanding."
+-- "Else 9, and the command stays outstanding."; 02: "Answers 29 and 9 carry it on", the reason. Bytes that are no record have none to name
 abbrev pub effectOn : Mount → Held → Row → Completion → Effect
 effectOn m h r good = succeeded m h r
-effectOn m h r (failed z) = cond (recordFits (m .volume .block) (h .kind) r z) (recovered m h r z) (refusing m refusal.BadRecord)
-effectOn m h r malformed = refusing m refusal.BadRecord
+effectOn m h r (failed z) =
+    cond (recordFits (m .volume .block) (h .kind) r z) (recovered m h r z)
+    (refusing m (refusal.BadRecord (misfit (m .volume .block) (h .kind) r z)))
+effectOn m h r malformed = refusing m (refusal.BadRecord fault.Nothing)
 
 abbrev pub effectPending : Mount → Pending → Completion → Effect
 effectPending m (pending.On h r) x = effectOn m h r x

@@ -13,6 +13,7 @@ use types::Outcome;
 use types::Refusal;
 use types::Row;
 use types::Store;
+use types::ZoneFault;
 use zones::Zone;
 
 fn succeeded(m: Mount, h: Held, row: Row) -> Effect
@@ -88,14 +89,15 @@ fn effect_of_record(m: Mount, h: Held, row: Row, z: Zone) -> Effect
 {
     let volume = m.volume;
     let kind = h.kind;
-    if recovery::fits::record_fits(volume.block, kind, row, z) {
+    let fault = recovery::fits::misfit(volume.block, kind, row, z);
+    if zones::is_faultless(fault) {
         recovered(m, h, row, z)
     } else {
-        types::effects::refusing(m, Refusal::BadRecord)
+        types::effects::refusing(m, Refusal::BadRecord(fault))
     }
 }
 
-// Bytes of another length are no record: 9 too.
+// Bytes of another length are no record: 9 too, and no field of it can be named.
 fn effect_of_bytes(m: Mount, h: Held, row: Row, bytes: &[u8], given: bool) -> Effect
     requires { ⌜ Safe m h row ⌝ }
     ensures { λ r. ⌜ r ≡ effectOn m h row (completionOf given (now (bytes .entry))) ⌝ }
@@ -103,7 +105,7 @@ fn effect_of_bytes(m: Mount, h: Held, row: Row, bytes: &[u8], given: bool) -> Ef
     if bytes.len() == zones::ZONE_BYTES {
         effect_of_record(m, h, row, zones::zone_at(bytes, 0, given))
     } else {
-        types::effects::refusing(m, Refusal::BadRecord)
+        types::effects::refusing(m, Refusal::BadRecord(ZoneFault::Nothing))
     }
 }
 

@@ -45,7 +45,7 @@ use Rattle.held.proofs.Issuable.{issuable-complete}
 use Rattle.held.proofs.Issued.{Issued, issuable-tells}
 use Rattle.held.proofs.Laws.{pending-tells}
 use Rattle.recovery.specs.Success.{rowAfter}
-use Rattle.recovery.specs.Fits.{recordFits}
+use Rattle.recovery.specs.Fits.{recordFits, misfit}
 use Rattle.recovery.specs.Recovery.{nothingLost, recoveredRow}
 use Rattle.completion.specs.Completions.{Completion, good, failed, malformed, succeeded, recovered, markedBy, failing, recovering, effectOn, effectPending}
 use Rattle.completion.specs.Completions as completions
@@ -172,7 +172,7 @@ module _ {s : State} (p : Possible s) where
     effect-possible good = done-possible
     effect-possible (failed z) = by (recordFits block (h .kind) r z) refl
       where
-        by : (t : Bool) → recordFits block (h .kind) r z ≡ t → Possible (applied s (cond t (recovered (s .mount) h r z) (refusing (s .mount) refusal.BadRecord)))
+        by : (t : Bool) → recordFits block (h .kind) r z ≡ t → Possible (applied s (cond t (recovered (s .mount) h r z) (refusing (s .mount) (refusal.BadRecord (misfit block (h .kind) r z)))))
         by true e = recovered-possible z e
         by false e = p
     effect-possible malformed = p

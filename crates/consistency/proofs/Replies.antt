@@ -30,7 +30,7 @@ use Rattle.checks.specs.Checks.{lookupOf}
 use Rattle.checks.proofs.Laws.{lookup-some, reached-file, file-none}
 use Rattle.decision.specs.Decision.{atOnce, readChecks, readRow, writeChecks, writeRow, truncateRow, flushRow, answerOn, dispatched}
 use Rattle.calls.specs.Calls as calls
-use Rattle.recovery.specs.Fits.{recordFits}
+use Rattle.recovery.specs.Fits.{recordFits, misfit}
 use Rattle.recovery.specs.Recovery.{nothingLost, recoveredRow}
 use Rattle.completion.specs.Completions.{Completion, good, failed, malformed, succeeded, recovered, failing, recovering, effectOn}
 use Rattle.completion.specs.Completions as completions
@@ -110,7 +110,9 @@ ready-answer m h r (failed z) = by (recordFits (m .volume .block) (h .kind) r z)
     new : Row
     new = recoveredRow (m .volume .policy) (h .kind) z r
 
-    by : (fits kept : Bool) → answerNumber (cond fits (cond kept (failing (cleared m) r store.Nothing) (recovering m h new)) (refusing m refusal.BadRecord) .outcome .answer) ≢ impossible
+    by : (fits kept : Bool)
+        → answerNumber (cond fits (cond kept (failing (cleared m) r store.Nothing) (recovering m h new)) (refusing m (refusal.BadRecord (misfit (m .volume .block) (h .kind) r z))) .outcome .answer)
+        ≢ impossible
     by false kept = λ q. omega arith
     by true false = λ q. omega arith
     by true true = λ q. omega arith

@@ -11,6 +11,7 @@ use Rattle.types.specs.declared.Held.{Held}
 use Rattle.types.specs.declared.FileKind.{FileKind}
 use Rattle.types.specs.declared.Refusal.{Refusal}
 use Rattle.types.specs.declared.Refusal.the-variants as refusal
+use Rattle.types.specs.declared.ZoneFault.the-variants as fault
 use Rattle.types.specs.declared.Answer.{Answer}
 use Rattle.types.specs.declared.Answer.the-variants.{Refused, Done, Issue}
 use Rattle.types.specs.declared.Outstanding.{Outstanding}
@@ -26,7 +27,7 @@ use Rattle.checks.specs.Checks.{noKind}
 use Rattle.calls.specs.Calls.{settled, answered, effectBy}
 use Rattle.calls.specs.Calls as calls
 use Rattle.zones.specs.declared.Zone.{Zone}
-use Rattle.recovery.specs.Fits.{recordFits}
+use Rattle.recovery.specs.Fits.{recordFits, misfit}
 use Rattle.recovery.specs.Recovery.{nothingLost, recoveredRow}
 use Rattle.types.specs.declared.Store.the-variants as store
 use Rattle.held.specs.declared.Pending.{Pending}
@@ -107,10 +108,13 @@ module _ (s : State) where
     effect-keeps r good = success-keeps r
     effect-keeps r (failed z) = by (recordFits (s .mount .volume .block) (h .kind) r z)
       where
-        by : (t : Bool) → Keeps (cond t (recovered (s .mount) h r z) (refusing (s .mount) refusal.BadRecord))
+        misfitting : Refusal
+        misfitting = refusal.BadRecord (misfit (s .mount .volume .block) (h .kind) r z)
+
+        by : (t : Bool) → Keeps (cond t (recovered (s .mount) h r z) (refusing (s .mount) misfitting))
         by true = recovered-keeps r z
-        by false = refusing-keeps refusal.BadRecord
-    effect-keeps r malformed = refusing-keeps refusal.BadRecord
+        by false = refusing-keeps misfitting
+    effect-keeps r malformed = refusing-keeps (refusal.BadRecord fault.Nothing)
 
   pending-keeps : (p : Pending) → PendingTells (s .mount) (s .cnv) (s .seq) p → (x : Completion) → Keeps (effectPending (s .mount) p x)
   pending-keeps (pending.On h r) w x = effect-keeps h (w .held) r x

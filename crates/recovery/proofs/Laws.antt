@@ -1,9 +1,10 @@
--- Check 9, out and in; when a record gives the size; and the recovery table: what it fixes, and that access never rises.
+-- Check 9, out and in, and its fault; when a record gives the size; and the recovery table: what it fixes, and that access never rises.
 -- Assumes nothing.
 use Prim.Native.Nat.{ℕ, _+_, _≤_}
 use native.Mathlib.Omega.{arith}
-use mathlib.Core.Path.{_≡_, refl}
-use mathlib.Core.Bool.{true}
+use mathlib.Core.Path.{_≡_, refl, ap, _∙_, sym}
+use mathlib.Core.List.{[], _∷_}
+use mathlib.Core.Bool.{Bool, true, false, _&&_}
 use borrow.Author.Tests.{le-leb, eq-eqb}
 use Rattle.types.specs.declared.Row.{Row}
 use Rattle.types.specs.declared.FileKind.{FileKind}
@@ -19,16 +20,25 @@ use Rattle.types.specs.Codes.{accessCode}
 use Rattle.types.proofs.Tests.{both, and-left, and-right}
 use Rattle.zones.specs.declared.Zone.{Zone}
 use Rattle.zones.specs.Zone.{conventional, sequential, conditionOf, healthy, goodRecord}
+use Rattle.zones.specs.Faults.{firstFault, recordTests, recordFault, isFaultless}
+use Rattle.zones.specs.Facts.{allPassed, First, numbers}
 use Rattle.zones.proofs.Laws.{record-bounded}
+use Rattle.zones.proofs.Faults.{passed-on, found-first, first-fault, both-passed, named, none-fails, record-passed}
 use Rattle.recovery.specs.declared.grid.SizeRule.the-variants.{Fixed}
 use Rattle.recovery.specs.declared.grid.AccessRule.{AccessRule}
 use Rattle.recovery.specs.declared.grid.AccessRule.the-variants as rule
 use Rattle.recovery.specs.Grid.{recoveryGrid, ruleOf}
-use Rattle.recovery.specs.Fits.{matchesSequential, withinConventional, ofFile, noBetter, recordFits}
+use Rattle.recovery.specs.Fits.{matchesSequential, withinConventional, ofFile, noBetter, recordFits, fileTests, fitTests, misfit}
 use Rattle.recovery.specs.Recovery.{recoveryRule, ruledAccess}
 use Rattle.recovery.specs.Facts.{Fitting, Sizing}
 
 -- 9
+
+regrouped : (a b c : Bool) → a && (b && (c && true)) ≡ a && b && c
+regrouped true true true = refl
+regrouped true true false = refl
+regrouped true false c = refl
+regrouped false b c = refl
 
 module _ (block : ℕ) (r : Row) (z : Zone) where
   -- what fits a sequential file
@@ -49,6 +59,37 @@ module _ (block : ℕ) (r : Row) (z : Zone) where
       (le-leb (bytesOf (z .start + z .length)) (bytesOf (r .start) + r .capacity) end)))
       refl
 
+  -- the order of its tests is that of the numbers
+  pub fit-numbers : (k : FileKind) → numbers (fitTests block k r z) ≡ 2 ∷ 3 ∷ 4 ∷ 5 ∷ 6 ∷ 7 ∷ 8 ∷ 9 ∷ []
+  unfolding numbers
+  fit-numbers k = refl
+
+  -- what fits is what has no fault
+  fit-passed : (k : FileKind) → allPassed (fitTests block k r z) ≡ recordFits block k r z
+  unfolding allPassed recordFits
+  fit-passed k =
+      both-passed (recordTests (blockSectors block) z) (fileTests k r z)
+      ∙ ap (λ g. g && (ofFile k r z && (noBetter k r z && true))) (record-passed (blockSectors block) z)
+      ∙ regrouped (goodRecord (blockSectors block) z) (ofFile k r z) (noBetter k r z)
+
+  pub misfit-faultless : (k : FileKind) → isFaultless (misfit block k r z) ≡ recordFits block k r z
+  unfolding misfit named
+  misfit-faultless k = none-fails (fitTests block k r z) refl ∙ fit-passed k
+
+  -- the record's own fault, or, where it is good, what is wrong with it as this file's
+  pub own-fault : (k : FileKind) → isFaultless (recordFault (blockSectors block) z) ≡ false → misfit block k r z ≡ recordFault (blockSectors block) z
+  unfolding misfit recordFault
+  own-fault k e = found-first (recordTests (blockSectors block) z) (fileTests k r z) e
+
+  pub own-passed : (k : FileKind) → goodRecord (blockSectors block) z ≡ true → misfit block k r z ≡ firstFault (fileTests k r z)
+  unfolding misfit
+  own-passed k good = passed-on (recordTests (blockSectors block) z) (fileTests k r z) (record-passed (blockSectors block) z ∙ good)
+
+  -- a fault is the first in order: no test before it fails, and its own does
+  pub misfit-first : (k : FileKind) → isFaultless (misfit block k r z) ≡ false → First (misfit block k r z) (fitTests block k r z)
+  unfolding misfit
+  misfit-first k e = first-fault (fitTests block k r z) e
+
 never : Conventional ≡ Sequential → ⊥
 never e = let z : _≡_ {A = ℕ} 0 1 = cc in omega arith
 
@@ -59,6 +100,14 @@ fitting unit Conventional r z good own = record { bounded = record-bounded unit 
 fitting unit Sequential r z good own =
     let type : sequential z ≡ true = search (and-left, and-right) depth 9 in
     record { bounded = record-bounded unit z good; alike = λ e. type }
+
+pub faultless-fitting : (block : ℕ) (k : FileKind) (r : Row) (z : Zone) → isFaultless (misfit block k r z) ≡ true → Fitting k z
+unfolding recordFits
+faultless-fitting block k r z e =
+    let fits : recordFits block k r z ≡ true = sym (misfit-faultless block r z k) ∙ e in
+    let own = and-left (goodRecord (blockSectors block) z && ofFile k r z) (noBetter k r z) fits in
+    fitting (blockSectors block) k r z (and-left (goodRecord (blockSectors block) z) (ofFile k r z) own)
+    (and-right (goodRecord (blockSectors block) z) (ofFile k r z) own)
 
 -- one that is healthy gives the file's size
 pub sizing : (k : FileKind) (z : Zone) → Fitting k z → healthy z ≡ true → Sizing k z

@@ -18,6 +18,7 @@ use Rattle.types.proofs.Tests.{and-left, and-right}
 use Rattle.types.proofs.VerdictLaws.{check-passed, check-passes}
 use Rattle.zones.specs.declared.Zone.{Zone}
 use Rattle.zones.specs.Zone.{zoneBytes, goodZone}
+use Rattle.zones.specs.Faults.{zoneFault}
 use Rattle.zones.specs.Facts.{AllBounded}
 use Rattle.zones.proofs.Laws.{zone-bounded}
 use Rattle.report.specs.Report.{headerBytes, zoneCount, goodHeader, reportZone, zonesFrom, zonesOf, zonesCheck, reportCheck}
@@ -69,7 +70,7 @@ unfolding zonesCheck refuse
 check-good unit n e z zs l q g = rw (q, g)
 
 pub check-bad : (unit n e : ℕ) (z : Zone) (zs l : List Zone) → l ≡ z ∷ zs → goodZone unit e z ≡ false
-    → zonesCheck unit n e l ≡ Refused (BadZone n)
+    → zonesCheck unit n e l ≡ Refused (BadZone n (zoneFault unit e z))
 unfolding zonesCheck refuse
 check-bad unit n e z zs l q g = rw (q, g)
 
@@ -94,13 +95,13 @@ zones-told : (unit n e : ℕ) (zs : List Zone) → zonesCheck unit n e zs ≡ Pa
 unfolding zonesCheck AllGood
 zones-told unit n e [] h = tt
 zones-told unit n e (z ∷ zs) h =
-    let p = check-passed (BadZone n) h in
+    let p = check-passed (BadZone n (zoneFault unit e z)) h in
     (not-false (goodZone unit e z) (p .0), zones-told unit (n + 1) (z .start + z .length) zs (p .1))
 
 zones-good : (unit n e : ℕ) (zs : List Zone) → AllGood unit e zs → zonesCheck unit n e zs ≡ Passed
 unfolding zonesCheck AllGood
 zones-good unit n e [] h = refl
-zones-good unit n e (z ∷ zs) h = check-passes (BadZone n) (ap not (h .0)) (zones-good unit (n + 1) (z .start + z .length) zs (h .1))
+zones-good unit n e (z ∷ zs) h = check-passes (BadZone n (zoneFault unit e z)) (ap not (h .0)) (zones-good unit (n + 1) (z .start + z .length) zs (h .1))
 
 -- A REPORT
 

@@ -9,8 +9,10 @@ use lib.ListN.{drop}
 use Rattle.types.specs.Blocks.{mostZones}
 use Rattle.types.specs.declared.Refusal.the-variants.{BadZone}
 use Rattle.types.specs.declared.Verdict.the-variants.{Passed, Refused}
+use Rattle.types.specs.declared.ZoneFault.{ZoneFault}
 use Rattle.zones.specs.declared.Zone.{Zone}
 use Rattle.zones.specs.Zone.{goodZone}
+use Rattle.zones.specs.Faults.{zoneFault}
 use Rattle.zones.proofs.Laws.{zone-bounded}
 use Rattle.files.specs.declared.Walk.{Walk}
 use Rattle.files.specs.Walk.{begun, stepped, walked}
@@ -40,8 +42,12 @@ module _ (unit : ℕ) (aggregate : Bool) (b : List ℕ) where
 
     module _ (z : Zone) (read : z ≡ reportZone b (w .number)) (here : w .number < zoneCount b) where
       -- a bad zone ends it
-      pub checking-bad : goodZone unit (w .expected) z ≡ false → Refused (BadZone (w .number)) ≡ zonesCheck unit 0 0 (zonesOf b)
-      checking-bad bad = sym (check-bad unit (w .number) (w .expected) z _ _ (zones-next b (w .number) z read here) bad) ∙ so .check
+      pub checking-bad : (x : ZoneFault) → x ≡ zoneFault unit (w .expected) z → goodZone unit (w .expected) z ≡ false
+          → Refused (BadZone (w .number) x) ≡ zonesCheck unit 0 0 (zonesOf b)
+      checking-bad x e bad =
+          ap (λ y. Refused (BadZone (w .number) y)) e
+          ∙ sym (check-bad unit (w .number) (w .expected) z _ _ (zones-next b (w .number) z read here) bad)
+          ∙ so .check
 
       -- a good one is taken into the walk
       pub checking-step : (w′ : Walk) → zoneCount b ≤ mostZones → goodZone unit (w .expected) z ≡ true → w′ ≡ stepped aggregate w z → Checking unit aggregate b w′

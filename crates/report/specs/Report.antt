@@ -12,6 +12,7 @@ use Rattle.types.specs.declared.Verdict.the-variants.{Passed}
 use Rattle.wire.specs.Le.{le, little}
 use Rattle.zones.specs.declared.Zone.{Zone}
 use Rattle.zones.specs.Zone.{zoneBytes, zoneAt, encodeZone, goodZone}
+use Rattle.zones.specs.Faults.{zoneFault}
 
 -- ---- its header
 
@@ -59,11 +60,13 @@ encodeReport zs = little 8 0 ++ (little 4 (length zs) ++ (little 4 1 ++ encodeZo
 
 -- ---- its checks
 
--- "bad zone, with the lowest zone number" is 29; "the first starts at 0, each next where the last ended"
+-- "bad zone, with the lowest zone number" is 29; "the first starts at 0, each next where the last ended". 02: "A bad zone's refusal carries a
+-- reason, the first of"
 unfoldable pub zonesCheck : ℕ → ℕ → ℕ → List Zone → Verdict
 zonesCheck unit number expected [] = Passed
 zonesCheck unit number expected (z ∷ zs) =
-    refuse (not (goodZone unit expected z)) (BadZone number) (zonesCheck unit (number + 1) (z .start + z .length) zs)
+    refuse (not (goodZone unit expected z)) (BadZone number (zoneFault unit expected z))
+    (zonesCheck unit (number + 1) (z .start + z .length) zs)
 
 -- "report header or length" is 28
 unfoldable pub reportCheck : ℕ → List ℕ → Verdict

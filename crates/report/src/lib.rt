@@ -115,7 +115,7 @@ pub fn read_zone(report: &[u8], i: usize) -> Zone
     next(moved(new(report), i))
 }
 
-// Checks each zone where the one before it ended, and takes it into the walk. Stops at the first that is bad.
+// Checks each zone where the one before it ended, and takes it into the walk. Stops at the first that has a fault.
 fn check_zones(report: &[u8], unit: u64, aggregate: bool) -> ReportRead
     requires { ⌜ Framed (now report) × (0 < unit) ⌝ }
     ensures check { λ r. ⌜ r .check ≡ zonesCheck unit 0 0 (zonesOf (now (report .entry))) ⌝ }
@@ -126,11 +126,12 @@ fn check_zones(report: &[u8], unit: u64, aggregate: bool) -> ReportRead
     let mut walk = files::begin();
     while walk.number < count {
         let z = read_zone(report, walk.number);
-        if zones::good_zone(z, walk.expected, unit) {
+        let fault = zones::zone_fault(z, walk.expected, unit);
+        if zones::is_faultless(fault) {
             walk = files::step(aggregate, walk, z);
         } else {
             let number = walk.number as u32;
-            let bad = Refusal::BadZone(number);
+            let bad = Refusal::BadZone(number, fault);
             return ReportRead {
                 check: Verdict::Refused(bad),
                 walk,

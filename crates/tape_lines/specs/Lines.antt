@@ -54,11 +54,11 @@ callFields (Refused r) = fields (refusalNumber r ∷ refusalValues r)
 callFields (Done count) = field 0 ++ doneFields count
 callFields (Issue c) = field 0 ++ commandFields c
 
--- "answer, then .. for OK 0 the count, for NO 7 the new size"
+-- "answer, then .. for OK 0 the count, for NO 7 the new size"; 02: for NO 9 the reason
 abbrev pub completionFields : Answer → List ℕ
 completionFields a = fields (answerNumber a ∷ answerValues a)
 
--- "answer, then for MO 0 both file counts, cnv first, for 29 the zone"
+-- "answer, then for MO 0 both file counts, cnv first, for 29 the zone"; 02: and the reason, "last on the line"
 abbrev pub mountFields : MountAnswer → List ℕ
 mountFields a = fields (mountNumber a ∷ mountValues a)
 

@@ -18,7 +18,7 @@ refusal-positive BeyondCapacity = omega arith
 refusal-positive Misplaced = omega arith
 refusal-positive (Failed size) = omega arith
 refusal-positive NothingOutstanding = omega arith
-refusal-positive BadRecord = omega arith
+refusal-positive (BadRecord fault) = omega arith
 refusal-positive Impossible = omega arith
 refusal-positive BadBlock = omega arith
 refusal-positive SuperLength = omega arith
@@ -29,7 +29,7 @@ refusal-positive SuperOwner = omega arith
 refusal-positive SuperTail = omega arith
 refusal-positive BadOptions = omega arith
 refusal-positive BadReport = omega arith
-refusal-positive (BadZone zone) = omega arith
+refusal-positive (BadZone zone fault) = omega arith
 refusal-positive TooFewRows = omega arith
 
 -- so a mount answered 0 is not refused

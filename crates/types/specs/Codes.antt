@@ -1,4 +1,5 @@
--- The number that stands for each kind, condition, access, policy and command, wherever one is written as a number, and back.
+-- The number that stands for each kind, condition, access, policy and command, wherever one is written as a number, and back; and that of
+-- a zone's fault.
 use Prim.Native.Nat.{ℕ}
 use mathlib.Core.Bool.{Bool, cond}
 use lib.Dec.{eqb, ltb}
@@ -12,6 +13,8 @@ use Rattle.types.specs.declared.ErrorPolicy.{ErrorPolicy}
 use Rattle.types.specs.declared.ErrorPolicy.the-variants.{RemountRo, ZoneRo, ZoneOffline, Repair}
 use Rattle.types.specs.declared.CommandKind.{CommandKind}
 use Rattle.types.specs.declared.CommandKind.the-variants as command
+use Rattle.types.specs.declared.ZoneFault.{ZoneFault}
+use Rattle.types.specs.declared.ZoneFault.the-variants as fault
 
 -- 1 for yes, 0 for no
 abbrev pub flagCode : Bool → ℕ
@@ -66,3 +69,17 @@ abbrev pub commandFrom : ℕ → CommandKind
 commandFrom n =
     cond (eqb n 0) command.Read
     (cond (eqb n 1) command.Write (cond (eqb n 2) command.Reset (cond (eqb n 3) command.Finish command.Flush)))
+
+-- 02: "a reason, the first of: 1 start, 2 length, 3 capacity (also a conventional one's), 4 end, 5 type, 6 condition, 7 pointer", and for a
+-- completion's record "8 not this file's zone, 9 a better condition"; 0 where there is none to name
+abbrev pub faultCode : ZoneFault → ℕ
+faultCode fault.Nothing = 0
+faultCode fault.Start = 1
+faultCode fault.Length = 2
+faultCode fault.Capacity = 3
+faultCode fault.End = 4
+faultCode fault.Type = 5
+faultCode fault.Condition = 6
+faultCode fault.Pointer = 7
+faultCode fault.OtherZone = 8
+faultCode fault.BetterCondition = 9

@@ -1,4 +1,4 @@
--- The number and the values of each answer, as paper 01 gives them: "When the drawer says no", and 0 for what is not refused.
+-- The number and the values of each answer, as paper 01 gives them: "When the drawer says no", and 0 for what is not refused. 02 adds reasons.
 use Prim.Native.Nat.{ℕ}
 use mathlib.Core.List.{List, [], _∷_}
 use Rattle.types.specs.declared.Refusal.{Refusal}
@@ -16,16 +16,19 @@ use Rattle.types.specs.declared.FindAnswer.{FindAnswer}
 use Rattle.types.specs.declared.FindAnswer.the-variants as find
 use Rattle.types.specs.declared.ShowAnswer.{ShowAnswer}
 use Rattle.types.specs.declared.ShowAnswer.the-variants as show
-use Rattle.types.specs.Codes.{kindCode, conditionCode, accessCode, commandCode}
+use Rattle.types.specs.Codes.{kindCode, conditionCode, accessCode, commandCode, faultCode}
 
 -- ---- a refusal
 
--- a number with no value, and one with a value
+-- a number with no value, one with a value, and one with two
 abbrev pub plain : ℕ → RefusalCode
 plain number = record { number = number; values = Nothing }
 
 abbrev pub withValue : ℕ → ℕ → RefusalCode
 withValue number value = record { number = number; values = One value }
+
+abbrev pub withTwo : ℕ → ℕ → ℕ → RefusalCode
+withTwo number first second = record { number = number; values = Two first second }
 
 -- the table "When the drawer says no"
 abbrev pub refusalCode : Refusal → RefusalCode
@@ -45,8 +48,8 @@ refusalCode Misplaced = plain 6
 refusalCode (Failed size) = withValue 7 size
 -- "completion with nothing outstanding"
 refusalCode NothingOutstanding = plain 8
--- "failed completion's zone record doesn't fit"
-refusalCode BadRecord = plain 9
+-- "failed completion's zone record doesn't fit"; 02: "Answers 29 and 9 carry it on", the reason
+refusalCode (BadRecord fault) = withValue 9 (faultCode fault)
 -- "mount value or tables impossible"
 refusalCode Impossible = plain 10
 -- "block"
@@ -63,8 +66,8 @@ refusalCode SuperTail = plain 26
 refusalCode BadOptions = plain 27
 -- "report header or length"
 refusalCode BadReport = plain 28
--- "bad zone, with the lowest zone number", "for 29 the zone"
-refusalCode (BadZone zone) = withValue 29 zone
+-- "bad zone, with the lowest zone number", "for 29 the zone"; 02: with the reason, and "The tape prints it last on the line."
+refusalCode (BadZone zone fault) = withTwo 29 zone (faultCode fault)
 -- "too few rows for either kind"
 refusalCode TooFewRows = plain 30
 

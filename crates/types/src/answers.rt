@@ -1,6 +1,6 @@
 // What each answer is in numbers; and a chain of checks, of which the first that fails decides.
 ghost use mathlib.Core.Path.{_≡_};
-ghost use Rattle.types.specs.Numbers.{plain, withValue, refusalCode, refusalNumber, answerNumber, mountNumber, findNumber, showNumber};
+ghost use Rattle.types.specs.Numbers.{plain, withValue, withTwo, refusalCode, refusalNumber, answerNumber, mountNumber, findNumber, showNumber};
 ghost use Rattle.types.specs.Verdicts.{refuse, andThen};
 use crate::Answer;
 use crate::FindAnswer;
@@ -10,6 +10,7 @@ use crate::RefusalCode;
 use crate::ShowAnswer;
 use crate::Values;
 use crate::Verdict;
+use crate::codes::fault_code;
 
 // One check of a chain: its refusal where it fails, else what the rest finds.
 pub fn refuse(fails: bool, x: Refusal, rest: Verdict) -> Verdict
@@ -46,6 +47,15 @@ fn with_value(number: u64, value: u64) -> RefusalCode
     }
 }
 
+fn with_two(number: u64, first: u64, second: u64) -> RefusalCode
+    ensures { λ r. ⌜ r ≡ withTwo number first second ⌝ }
+{
+    RefusalCode {
+        number,
+        values: Values::Two(first, second),
+    }
+}
+
 // The number of a refusal, and its values.
 pub fn refusal_code(x: Refusal) -> RefusalCode
     ensures { λ r. ⌜ r ≡ refusalCode x ⌝ }
@@ -59,7 +69,7 @@ pub fn refusal_code(x: Refusal) -> RefusalCode
         Refusal::Misplaced => plain(6),
         Refusal::Failed(size) => with_value(7, size),
         Refusal::NothingOutstanding => plain(8),
-        Refusal::BadRecord => plain(9),
+        Refusal::BadRecord(fault) => with_value(9, fault_code(fault)),
         Refusal::Impossible => plain(10),
         Refusal::BadBlock => plain(20),
         Refusal::SuperLength => plain(21),
@@ -70,7 +80,7 @@ pub fn refusal_code(x: Refusal) -> RefusalCode
         Refusal::SuperTail => plain(26),
         Refusal::BadOptions => plain(27),
         Refusal::BadReport => plain(28),
-        Refusal::BadZone(zone) => with_value(29, zone as u64),
+        Refusal::BadZone(zone, fault) => with_two(29, zone as u64, fault_code(fault)),
         Refusal::TooFewRows => plain(30),
     }
 }

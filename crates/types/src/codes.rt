@@ -1,12 +1,13 @@
-// The number that stands for each kind, condition, access, policy and command, and back.
+// The number that stands for each kind, condition, access, policy and command, and back; and that of a zone's fault.
 ghost use mathlib.Core.Path.{_≡_};
 ghost use Prim.Native.Nat.{_<_};
-ghost use Rattle.types.specs.Codes.{flagCode, kindCode, kindFrom, isKind, conditionCode, accessCode, policyCode, policyFrom, commandCode, commandFrom};
+ghost use Rattle.types.specs.Codes.{flagCode, kindCode, kindFrom, isKind, conditionCode, accessCode, policyCode, policyFrom, commandCode, commandFrom, faultCode};
 use crate::Access;
 use crate::CommandKind;
 use crate::Condition;
 use crate::ErrorPolicy;
 use crate::FileKind;
+use crate::ZoneFault;
 
 // How many numbers stand for a kind, for a policy and for a command.
 pub const KINDS: u64 = 2;
@@ -116,5 +117,23 @@ pub fn command_from(code: u64) -> CommandKind
         2 => CommandKind::Reset,
         3 => CommandKind::Finish,
         _ => CommandKind::Flush,
+    }
+}
+
+// The number of a zone's fault: 0 for none, else its place in the order of the tests.
+pub fn fault_code(fault: ZoneFault) -> u64
+    ensures { λ r. ⌜ r ≡ faultCode fault ⌝ }
+{
+    match fault {
+        ZoneFault::Nothing => 0,
+        ZoneFault::Start => 1,
+        ZoneFault::Length => 2,
+        ZoneFault::Capacity => 3,
+        ZoneFault::End => 4,
+        ZoneFault::Type => 5,
+        ZoneFault::Condition => 6,
+        ZoneFault::Pointer => 7,
+        ZoneFault::OtherZone => 8,
+        ZoneFault::BetterCondition => 9,
     }
 }

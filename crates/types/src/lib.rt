@@ -1,6 +1,6 @@
 // The values that every layer speaks of: files and their rows, commands, the mount, refusals and answers.
 pub mod answers; // what each answer is in numbers; a chain of checks
-pub mod codes; // the number of each kind, condition, access, policy and command, and back
+pub mod codes; // the number of each kind, condition, access, policy and command, and back; of a zone's fault
 pub mod commands; // what a command moves, and whether it is a read
 pub mod effects; // what a call or a completion does where nothing is stored
 pub mod mounts; // the empty mount value, and what calls and completions change of one
@@ -107,6 +107,22 @@ pub struct Mount {
     pub outstanding: Outstanding,
 }
 
+// What is wrong with a zone, by the test that it fails first, in the order of the tests. The last two are for the record of a failed
+// command, which has to be of its file's zone.
+pub enum ZoneFault {
+    // No field is at fault: of a good zone, and of bytes that are no record.
+    Nothing,
+    Start,
+    Length,
+    Capacity,
+    End,
+    Type,
+    Condition,
+    Pointer,
+    OtherZone,
+    BetterCondition,
+}
+
 // Why something was refused: the lines of paper 01's table, in its order.
 pub enum Refusal {
     NoFile,
@@ -118,7 +134,8 @@ pub enum Refusal {
     // The disk failed the command, and the file now has this size.
     Failed(u64),
     NothingOutstanding,
-    BadRecord,
+    // Why the record doesn't fit.
+    BadRecord(ZoneFault),
     Impossible,
     BadBlock,
     SuperLength,
@@ -129,8 +146,8 @@ pub enum Refusal {
     SuperTail,
     BadOptions,
     BadReport,
-    // The lowest number of a bad zone.
-    BadZone(u32),
+    // The lowest number of a bad zone, and why it is bad.
+    BadZone(u32, ZoneFault),
     TooFewRows,
 }
 

@@ -19,7 +19,8 @@ fn zone_of(numbers: &[u64; PLACES]) -> Zone {
 }
 
 pub fn show(numbers: &[u64; PLACES]) {
-    if zones::good_record(zone_of(numbers), UNIT) {
+    let fault = zones::record_fault(zone_of(numbers), UNIT);
+    if zones::is_faultless(fault) {
         printing::text(b" good");
     } else {
         printing::text(b" bad");

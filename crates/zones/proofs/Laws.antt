@@ -1,6 +1,6 @@
--- What a good zone tells, and that it is one without a fault.
+-- What a good zone tells.
 -- Assumes nothing.
-use mathlib.Core.Path.{_≡_, refl, ap}
+use mathlib.Core.Path.{_≡_, ap}
 use mathlib.Core.List.{List, _∷_}
 use mathlib.Core.Bool.{Bool, true, false, not, _&&_}
 use Prim.Native.Nat.{ℕ, _+_, _%_}
@@ -9,39 +9,8 @@ use lib.Dec.{leb}
 use Rattle.types.specs.Blocks.{onBlock}
 use Rattle.types.proofs.Tests.{both, and-left, and-right, means-out}
 use Rattle.zones.specs.declared.Zone.{Zone}
-use Rattle.zones.specs.declared.ZoneFault.{ZoneFault}
-use Rattle.zones.specs.declared.ZoneFault.the-variants as fault
 use Rattle.zones.specs.Zone.{startsAt, goodLength, goodCapacity, goodEnd, goodType, goodCondition, goodPointer, full, saysSize, pointed, pointsWell, goodRecord, goodZone}
-use Rattle.zones.specs.Faults.{faultUnless, recordFault, zoneFault, isFaultless}
 use Rattle.zones.specs.Facts.{Pointed, Bounded, AllBounded}
-
--- NO FAULT: the tests that find none are those of good input
-
-six-faultless : (a b c d e f : Bool)
-    → isFaultless (faultUnless a fault.Length (faultUnless b fault.Capacity (faultUnless c fault.End (faultUnless d fault.Type (faultUnless e fault.Condition (faultUnless f fault.Pointer fault.Nothing))))))
-    ≡ a && b && c && d && e && f
-unfolding faultUnless
-six-faultless true true true true true true = refl
-six-faultless true true true true true false = refl
-six-faultless true true true true false f = refl
-six-faultless true true true false e f = refl
-six-faultless true true false d e f = refl
-six-faultless true false c d e f = refl
-six-faultless false b c d e f = refl
-
-pub record-faultless : (unit : ℕ) (z : Zone) → isFaultless (recordFault unit z) ≡ goodRecord unit z
-unfolding recordFault goodRecord
-record-faultless unit z =
-    six-faultless (goodLength unit z) (goodCapacity unit z) (goodEnd z) (goodType z) (goodCondition z) (goodPointer unit z)
-
-start-faultless : (t : Bool) (x : ZoneFault) {g : Bool} → isFaultless x ≡ g → isFaultless (faultUnless t fault.Start x) ≡ t && g
-unfolding faultUnless
-start-faultless true x e = e
-start-faultless false x e = refl
-
-pub zone-faultless : (unit e : ℕ) (z : Zone) → isFaultless (zoneFault unit e z) ≡ goodZone unit e z
-unfolding zoneFault goodZone
-zone-faultless unit e z = start-faultless (startsAt e z) (recordFault unit z) (record-faultless unit z)
 
 -- GOOD INPUT
 

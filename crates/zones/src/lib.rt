@@ -4,10 +4,11 @@ ghost use mathlib.Core.Bool.{true, cond};
 ghost use Prim.Native.Nat.{_+_, _≤_, _<_};
 ghost use lib.ListN.{length};
 ghost use Rattle.types.specs.Blocks.{onBlock, wholeBlocks};
-ghost use Rattle.zones.specs.Zone.{zoneBytes, zoneAt, conventional, sequential, conditionOf, healthy, full, writtenSize, saysSize, startsAt, goodLength, goodCapacity, goodEnd, goodType, conventionalCondition, sequentialCondition, goodCondition, pointed, pointsWell, goodPointer, goodRecord, goodZone};
-ghost use Rattle.zones.specs.Faults.{faultUnless, recordFault, zoneFault, faultCode, isFaultless};
+ghost use Rattle.zones.specs.Zone.{zoneBytes, zoneAt, conventional, sequential, conditionOf, healthy, full, writtenSize, saysSize, startsAt, goodLength, goodCapacity, goodEnd, goodType, conventionalCondition, sequentialCondition, goodCondition, pointed, pointsWell, goodPointer};
+ghost use Rattle.zones.specs.Faults.{faultUnless, recordFault, zoneFault, isFaultless};
 ghost use Rattle.zones.specs.Facts.{Bounded};
 use types::Condition;
+use types::ZoneFault;
 use types::units::LARGE_BLOCK;
 use types::units::SECTOR_BYTES;
 
@@ -19,18 +20,6 @@ pub struct Zone {
     pub kind: u8,
     pub condition: u8,
     pub capacity: u64,
-}
-
-// Which test of good input a zone fails first, in the order of the tests.
-pub enum ZoneFault {
-    Nothing,
-    Start,
-    Length,
-    Capacity,
-    End,
-    Type,
-    Condition,
-    Pointer,
 }
 
 // A record's bytes, and where its fields stand.
@@ -254,7 +243,7 @@ fn good_pointer(z: Zone, unit: u64) -> bool
 }
 
 // One test: what the rest finds where it is passed, else its fault.
-fn fault_unless(passed: bool, fault: ZoneFault, rest: ZoneFault) -> ZoneFault
+pub fn fault_unless(passed: bool, fault: ZoneFault, rest: ZoneFault) -> ZoneFault
     ensures { λ r. ⌜ r ≡ faultUnless passed fault rest ⌝ }
 {
     if passed { rest } else { fault }
@@ -286,40 +275,8 @@ pub fn zone_fault(z: Zone, expected: u64, unit: u64) -> ZoneFault
     fault_unless(starts_at(z, expected), ZoneFault::Start, fault)
 }
 
-// The number of a fault: 0 for none, else its place in the order of the tests.
-pub fn fault_code(fault: ZoneFault) -> u64
-    ensures { λ r. ⌜ r ≡ faultCode fault ⌝ }
-{
-    match fault {
-        ZoneFault::Nothing => 0,
-        ZoneFault::Start => 1,
-        ZoneFault::Length => 2,
-        ZoneFault::Capacity => 3,
-        ZoneFault::End => 4,
-        ZoneFault::Type => 5,
-        ZoneFault::Condition => 6,
-        ZoneFault::Pointer => 7,
-    }
-}
-
-fn is_faultless(fault: ZoneFault) -> bool
+pub fn is_faultless(fault: ZoneFault) -> bool
     ensures { λ r. ⌜ r ≡ isFaultless fault ⌝ }
 {
-    fault_code(fault) == 0
-}
-
-// A record that is good input wherever its zone starts.
-pub fn good_record(z: Zone, unit: u64) -> bool
-    requires { ⌜ 0 < unit ⌝ }
-    ensures { λ r. ⌜ r ≡ goodRecord unit z ⌝ }
-{
-    is_faultless(record_fault(z, unit))
-}
-
-// A zone of a report that is good input where the one before it ended at `expected`.
-pub fn good_zone(z: Zone, expected: u64, unit: u64) -> bool
-    requires { ⌜ 0 < unit ⌝ }
-    ensures { λ r. ⌜ r ≡ goodZone unit expected z ⌝ }
-{
-    is_faultless(zone_fault(z, expected, unit))
+    types::codes::fault_code(fault) == 0
 }

@@ -1,29 +1,28 @@
 //! Mounts with faults: one for each refusal number, often several at once, so that the order shows.
 
 use super::calls::any_call;
+use super::faults::{self, point_past_capacity, REASONS, SEQUENTIAL};
 use super::random::Random;
 use super::records::{encode, head};
-use super::shape::{self, put, stamp};
+use super::shape::{self, put, stamp, Shape};
 use crate::player::mount::Input;
 use crate::player::superblock;
 use crate::player::tape::Record;
-use crate::player::types::{DISK_LIMIT, SECTOR};
+use crate::player::types::{Reason, DISK_LIMIT, SECTOR};
 use crate::player::zone::{self, Zone, HEADER};
-
-const SEQUENTIAL: [u8; 2] = [zone::SEQUENTIAL_REQUIRED, zone::SEQUENTIAL_PREFERRED];
 
 /// A tape with a refused mount. What follows the mount must not be looked at.
 pub fn tape(random: &mut Random) -> Vec<u8> {
     let mut shape = shape::shape(random);
     // There are many ways for a zone to be bad, so they have a large share.
-    let bad_zones = random.percent(50);
+    let bad_zones = random.percent(65);
     if bad_zones {
-        for _ in 0..random.pick(&[1, 1, 1, 2]) {
-            spoil_zone(random, &mut shape.zones, u64::from(shape.block) / SECTOR);
+        for _ in 0..random.pick(&[1, 1, 1, 2, 3]) {
+            spoil_a_zone(random, &mut shape);
         }
     }
     let mut input = shape::input(random, &shape);
-    let faults = random.pick(if bad_zones { &[0, 0, 0, 1] } else { &[1, 1, 1, 1, 2, 2, 3] });
+    let faults = random.pick(if bad_zones { &[0, 0, 0, 0, 0, 1] } else { &[1, 1, 1, 1, 2, 2, 3] });
     for _ in 0..faults {
         spoil(random, &mut input);
     }
@@ -171,20 +170,36 @@ fn bad_options(random: &mut Random) -> Vec<u8> {
     noise
 }
 
-/// Puts one fault into one zone. Some faults are none for the zone they meet: a near miss is worth as much.
-pub fn spoil_zone(random: &mut Random, zones: &mut [Zone], step: u64) {
+/// Makes one zone of a report bad, mostly for chosen reasons.
+fn spoil_a_zone(random: &mut Random, shape: &mut Shape) {
     let number = match random.below(4) {
         0 => 0,
-        1 => zones.len() - 1,
-        _ => random.below(zones.len() as u64) as usize,
+        1 => shape.zones.len() - 1,
+        _ => random.below(shape.zones.len() as u64) as usize,
     };
-    let zone = &mut zones[number];
-    match random.weighted(&[20, 20, 25, 20, 15, 10]) {
+    let (zone, step) = (&mut shape.zones[number], u64::from(shape.block) / SECTOR);
+    if random.percent(25) {
+        spoil_zone(random, zone, step);
+        return;
+    }
+    let chosen = faults::choose(random, &REASONS[..7]);
+    faults::put(random, zone, step, &chosen);
+    // Without its flag no capacity is looked at.
+    shape.capacity_given |= chosen.contains(&Reason::Capacity);
+}
+
+/// Puts one fault into a zone. Some faults are none for the zone they meet: a near miss is worth as much.
+pub fn spoil_zone(random: &mut Random, zone: &mut Zone, step: u64) {
+    match random.weighted(&[15, 15, 20, 15, 35, 10]) {
         0 => spoil_place(random, zone, step),
         1 => spoil_capacity(random, zone, step),
         2 => spoil_type(random, zone),
         3 => spoil_pointer(random, zone, step),
-        4 => point_past_capacity(random, zone, step),
+        4 => {
+            zone.kind = random.pick(&SEQUENTIAL);
+            zone.condition = random.between(1, 4) as u8;
+            point_past_capacity(random, zone, step);
+        }
         _ => {
             let value = random.extreme();
             match random.below(4) {
@@ -250,18 +265,4 @@ fn spoil_pointer(random: &mut Random, zone: &mut Zone, step: u64) {
         5 => random.pick(&[0, u64::MAX]),
         _ => end,
     };
-}
-
-/// To the end of a zone that holds less than its length and isn't full.
-fn point_past_capacity(random: &mut Random, zone: &mut Zone, step: u64) {
-    zone.kind = random.pick(&SEQUENTIAL);
-    zone.condition = random.between(1, 4) as u8;
-    if zone.capacity == zone.length {
-        // A failed command's record must keep its file's capacity, and a zone of a report its length.
-        match random.below(2) {
-            0 => zone.length = zone.length.wrapping_add(step),
-            _ => zone.capacity = zone.capacity.wrapping_sub(step),
-        }
-    }
-    zone.pointer = zone.start.wrapping_add(zone.length);
 }

@@ -14,7 +14,7 @@ use crate::disk::truth::Shown;
 use crate::player::mount::Input;
 use crate::player::play::mount_volume;
 use crate::player::tape::Record;
-use crate::player::types::{Command, FileKind, Held, Operation, Volume};
+use crate::player::types::{Command, Condition, FileKind, Held, Operation, Volume};
 use crate::player::zone::Zone;
 
 /// A run in which the disk tells the truth; the consistency check watches it.
@@ -178,7 +178,14 @@ pub fn wild(random: &mut Random) -> Vec<u8> {
 
 fn wild_step(random: &mut Random, volume: &mut Volume, tape: &mut Vec<u8>) {
     let held = volume.mount.held;
-    let choices = if held.is_some() { [25, 20, 26, 26, 3] } else { [90, 4, 2, 2, 2] };
+    let choices = match held {
+        None => [90, 4, 2, 2, 2],
+        // Few files are like that, and only of these a record can be better.
+        Some(held) if volume.row(held.kind, held.number).condition != Condition::Healthy => {
+            [15, 10, 22, 50, 3]
+        }
+        Some(_) => [25, 20, 26, 26, 3],
+    };
     let held = held.unwrap_or(NOTHING);
     let record = match random.weighted(&choices) {
         0 => {

@@ -2,8 +2,8 @@
 
 use super::calls::{decide, Reply, Request};
 use super::types::{
-    sum_within, Access, Command, Condition, FileKind, Held, Mount, Operation, Policy, Refusal, Row, Volume,
-    SECTOR,
+    sum_within, Access, Command, Condition, FileKind, Held, Mount, Operation, Policy, Reason, Refusal, Row,
+    Volume, SECTOR,
 };
 use super::zone::{Zone, RECORD};
 
@@ -27,11 +27,13 @@ impl Volume {
     pub fn fail(&mut self, record: &[u8], capacity_given: bool) -> Result<u64, Refusal> {
         let (held, row) = self.checked_held()?;
         if record.len() != RECORD {
-            return Err(Refusal::RecordMismatch);
+            return Err(Refusal::RecordMismatch(Reason::NoRecord));
         }
         let zone = Zone::decode(record, capacity_given);
-        if !zone.is_good(self.mount.block) || !matches_file(&zone, held.kind, &row) {
-            return Err(Refusal::RecordMismatch);
+        // The record's own faults come first; it need not start where another zone ended.
+        let reason = zone.fault(self.mount.block).or_else(|| mismatch(&zone, held.kind, &row));
+        if let Some(reason) = reason {
+            return Err(Refusal::RecordMismatch(reason));
         }
         self.mount.held = None;
         if needs_recovery(&held, &row, &zone) {
@@ -39,7 +41,7 @@ impl Volume {
             *self.row_mut(held.kind, held.number) = recover(policy, held.kind, &row, &zone);
             self.mount.read_only |= policy == Policy::RemountReadOnly;
         }
-        Ok(self.rows(held.kind)[held.number as usize].size)
+        Ok(self.row(held.kind, held.number).size)
     }
 
     /// Checks 8 and 10. A held command on a file that isn't there is impossible (10), not unknown (1).
@@ -69,20 +71,33 @@ fn is_issuable(mount: &Mount, kind: FileKind, row: &Row, command: &Command) -> b
     decide(mount, kind, row, &request) == Ok(Reply::Issued(*command))
 }
 
-/// A sequential file is one zone, which can't have got better; a conventional one may be several zones.
-fn matches_file(zone: &Zone, kind: FileKind, row: &Row) -> bool {
+/// Why a good zone can't be what the file's command failed on.
+fn mismatch(zone: &Zone, kind: FileKind, row: &Row) -> Option<Reason> {
+    if !is_of_file(zone, kind, row) {
+        Some(Reason::OtherZone)
+    } else if is_better(zone, kind, row) {
+        Some(Reason::BetterCondition)
+    } else {
+        None
+    }
+}
+
+/// A sequential file is one zone; a conventional one may be several.
+pub fn is_of_file(zone: &Zone, kind: FileKind, row: &Row) -> bool {
     match kind {
         FileKind::Sequential => {
-            !zone.is_conventional()
-                && zone.start == row.start
-                && zone.capacity == row.capacity / SECTOR
-                && zone.health() >= row.condition
+            !zone.is_conventional() && zone.start == row.start && zone.capacity == row.capacity / SECTOR
         }
         FileKind::Conventional => {
             let end = row.start + row.capacity / SECTOR;
             zone.is_conventional() && zone.start >= row.start && sum_within(zone.start, zone.length, end)
         }
     }
+}
+
+/// A sequential file's zone can't have got better. A conventional file's may be another one than that which got worse.
+pub fn is_better(zone: &Zone, kind: FileKind, row: &Row) -> bool {
+    kind == FileKind::Sequential && zone.health() < row.condition
 }
 
 /// A read that failed in a healthy zone, of which as much is written as the file's size says, recovers nothing.

@@ -72,8 +72,7 @@ fn mount_line(input: &Input) -> (String, Option<Volume>) {
             let text = format!("MO 0 {} {}", volume.mount.cnv_files, volume.mount.seq_files);
             (text, Some(volume))
         }
-        Err(Refusal::BadZone(number)) => (format!("MO 29 {number}"), None),
-        Err(refusal) => (format!("MO {}", refusal.number()), None),
+        Err(refusal) => (refusal_line("MO", refusal), None),
     }
 }
 
@@ -83,11 +82,11 @@ fn answer(volume: &mut Volume, record: &Record) -> Option<String> {
         Record::Call(call) => Some(call_line(volume, call)),
         Record::Good => Some(match volume.succeed() {
             Ok(count) => format!("OK 0 {count}"),
-            Err(refusal) => format!("OK {}", refusal.number()),
+            Err(refusal) => refusal_line("OK", refusal),
         }),
         Record::Failed(zone) => Some(match volume.fail(zone, true) {
             Ok(size) => format!("NO 7 {size}"),
-            Err(refusal) => format!("NO {}", refusal.number()),
+            Err(refusal) => refusal_line("NO", refusal),
         }),
         Record::Block(_) | Record::SuperBlock(_) | Record::Report(_) | Record::Options(_) => None,
     }
@@ -101,8 +100,16 @@ fn call_line(volume: &mut Volume, record: &CallRecord) -> String {
             let letter = letter(command.operation);
             format!("{mark} 0 {letter} {} {}", command.address, command.length)
         }
-        Err(refusal) => format!("{mark} {}", refusal.number()),
+        Err(refusal) => refusal_line(mark, refusal),
     }
+}
+
+fn refusal_line(mark: &str, refusal: Refusal) -> String {
+    let mut line = format!("{mark} {}", refusal.number());
+    for value in refusal.values() {
+        line.push_str(&format!(" {value}"));
+    }
+    line
 }
 
 fn letter(operation: Operation) -> char {

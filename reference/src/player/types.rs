@@ -117,11 +117,39 @@ impl Volume {
         }
     }
 
+    pub fn row(&self, kind: FileKind, number: u32) -> &Row {
+        &self.rows(kind)[number as usize]
+    }
+
     pub fn row_mut(&mut self, kind: FileKind, number: u32) -> &mut Row {
         match kind {
             FileKind::Conventional => &mut self.cnv[number as usize],
             FileKind::Sequential => &mut self.seq[number as usize],
         }
+    }
+}
+
+/// What is wrong with a zone. The numbers are the paper's, and of several reasons the lowest is given.
+#[derive(Clone, Copy, Debug, PartialEq, Eq, PartialOrd, Ord)]
+pub enum Reason {
+    /// A record of any other length than 64 bytes, which has no field to name.
+    NoRecord = 0,
+    Start = 1,
+    Length = 2,
+    Capacity = 3,
+    End = 4,
+    Type = 5,
+    Condition = 6,
+    Pointer = 7,
+    /// A good zone, but not one of the file whose command failed.
+    OtherZone = 8,
+    /// The file's zone in a better condition than it can have.
+    BetterCondition = 9,
+}
+
+impl Reason {
+    pub fn number(self) -> u64 {
+        self as u64
     }
 }
 
@@ -134,7 +162,7 @@ pub enum Refusal {
     BeyondCapacity,
     NotAppending,
     NothingOutstanding,
-    RecordMismatch,
+    RecordMismatch(Reason),
     Impossible,
     Block,
     SuperBlockLength,
@@ -145,7 +173,7 @@ pub enum Refusal {
     Tail,
     Options,
     ReportHeader,
-    BadZone(usize),
+    BadZone { zone: u32, reason: Reason },
     TooFewRows,
 }
 
@@ -159,7 +187,7 @@ impl Refusal {
             Refusal::BeyondCapacity => 5,
             Refusal::NotAppending => 6,
             Refusal::NothingOutstanding => 8,
-            Refusal::RecordMismatch => 9,
+            Refusal::RecordMismatch(_) => 9,
             Refusal::Impossible => 10,
             Refusal::Block => 20,
             Refusal::SuperBlockLength => 21,
@@ -170,8 +198,17 @@ impl Refusal {
             Refusal::Tail => 26,
             Refusal::Options => 27,
             Refusal::ReportHeader => 28,
-            Refusal::BadZone(_) => 29,
+            Refusal::BadZone { .. } => 29,
             Refusal::TooFewRows => 30,
+        }
+    }
+
+    /// What a tape prints behind the number.
+    pub fn values(self) -> Vec<u64> {
+        match self {
+            Refusal::BadZone { zone, reason } => vec![u64::from(zone), reason.number()],
+            Refusal::RecordMismatch(reason) => vec![reason.number()],
+            _ => Vec::new(),
         }
     }
 }

@@ -1,6 +1,6 @@
 //! Zone records and the zone report.
 
-use super::types::{sum_within, u32_at, u64_at, Condition, Refusal, DISK_LIMIT, MAX_ZONES, SECTOR};
+use super::types::{sum_within, u32_at, u64_at, Condition, Reason, Refusal, DISK_LIMIT, MAX_ZONES, SECTOR};
 
 pub const HEADER: usize = 16;
 pub const RECORD: usize = 64;
@@ -66,30 +66,70 @@ impl Zone {
         sectors * SECTOR
     }
 
-    /// Every check of a zone but the one on where it starts.
-    pub fn is_good(&self, block: u64) -> bool {
+    /// The first fault that the zone has by itself, in any place: every reason but the one on where it starts.
+    pub fn fault(&self, block: u64) -> Option<Reason> {
         let step = block / SECTOR;
-        let whole = |sectors: u64| sectors != 0 && sectors.is_multiple_of(step);
-        whole(self.length)
-            && whole(self.capacity)
-            && self.capacity <= self.length
-            && sum_within(self.start, self.length, DISK_LIMIT)
-            && self.fits_its_kind()
-            && (!self.pointer_counts() || self.pointer_is_good(step))
+        if !self.length_is_good(step) {
+            Some(Reason::Length)
+        } else if !self.capacity_is_good(step) {
+            Some(Reason::Capacity)
+        } else if !self.end_is_good() {
+            Some(Reason::End)
+        } else if !self.type_is_good() {
+            Some(Reason::Type)
+        } else if !self.condition_is_good() {
+            Some(Reason::Condition)
+        } else if self.pointer_counts() && !self.pointer_is_good(step) {
+            Some(Reason::Pointer)
+        } else {
+            None
+        }
     }
 
-    fn fits_its_kind(&self) -> bool {
-        match (self.kind, self.condition) {
-            (CONVENTIONAL, NOT_WRITE_POINTER | READ_ONLY | OFFLINE) => self.capacity == self.length,
-            (SEQUENTIAL_REQUIRED | SEQUENTIAL_PREFERRED, EMPTY..=CLOSED | READ_ONLY | FULL | OFFLINE) => true,
+    pub fn is_good(&self, block: u64) -> bool {
+        self.fault(block).is_none()
+    }
+
+    /// Here and below, `step` is a block in sectors.
+    pub fn length_is_good(&self, step: u64) -> bool {
+        is_whole(self.length, step)
+    }
+
+    pub fn capacity_is_good(&self, step: u64) -> bool {
+        is_whole(self.capacity, step)
+            && self.capacity <= self.length
+            && (!self.is_conventional() || self.capacity == self.length)
+    }
+
+    pub fn end_is_good(&self) -> bool {
+        sum_within(self.start, self.length, DISK_LIMIT)
+    }
+
+    pub fn type_is_good(&self) -> bool {
+        matches!(self.kind, CONVENTIONAL | SEQUENTIAL_REQUIRED | SEQUENTIAL_PREFERRED)
+    }
+
+    /// Whether zones of its type have its condition. One of an unknown type has none that is good.
+    pub fn condition_is_good(&self) -> bool {
+        match self.kind {
+            CONVENTIONAL => matches!(self.condition, NOT_WRITE_POINTER | READ_ONLY | OFFLINE),
+            SEQUENTIAL_REQUIRED | SEQUENTIAL_PREFERRED => {
+                matches!(self.condition, EMPTY..=CLOSED | READ_ONLY | FULL | OFFLINE)
+            }
             _ => false,
         }
     }
 
-    fn pointer_is_good(&self, step: u64) -> bool {
-        let end = self.start + self.capacity;
-        self.start <= self.pointer && self.pointer <= end && self.pointer.is_multiple_of(step)
+    /// Whether the pointer stands where one that counts may.
+    pub fn pointer_is_good(&self, step: u64) -> bool {
+        self.start <= self.pointer
+            && self.pointer - self.start <= self.capacity
+            && self.pointer.is_multiple_of(step)
     }
+}
+
+fn is_whole(sectors: u64, step: u64) -> bool {
+    sectors != 0 && sectors.is_multiple_of(step)
 }
 
 /// The zones of a report with a good header, unchecked. Anything wrong with header or length is 28.
@@ -109,8 +149,9 @@ pub fn decode_report(report: &[u8]) -> Result<Vec<Zone>, Refusal> {
 pub fn check_zones(zones: &[Zone], block: u64) -> Result<(), Refusal> {
     let mut expected = 0;
     for (number, zone) in zones.iter().enumerate() {
-        if zone.start != expected || !zone.is_good(block) {
-            return Err(Refusal::BadZone(number));
+        let fault = if zone.start == expected { zone.fault(block) } else { Some(Reason::Start) };
+        if let Some(reason) = fault {
+            return Err(Refusal::BadZone { zone: number as u32, reason });
         }
         expected = zone.start + zone.length;
     }

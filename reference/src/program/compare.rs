@@ -112,7 +112,7 @@ fn compare_tape(tape: &[u8], file: &Path, player: &str, tally: &mut Tally) -> Re
     tally.tapes += 1;
     tally.exits += u64::from(code != 0);
     lines.iter().for_each(|line| tally.count_line(&line.text));
-    tally.pointers.count_tape(tape);
+    tally.count_tape(tape);
     Ok(())
 }
 

@@ -1,11 +1,10 @@
 //! Pointers that a player may fall for, and what came of them on a tape: those of full zones, which are ignored, and
 //! those that the capacity bounds, which aren't.
 
-use crate::player::mount::Input;
-use crate::player::play::{mount_volume, read_input};
-use crate::player::tape::{Next, Reader, Record};
-use crate::player::types::{Held, Operation, Policy, Refusal, Row, Volume, SECTOR};
-use crate::player::zone::{check_zones, decode_report, Zone, FULL};
+use super::counter::{Counter, Failure};
+use crate::player::tape::CallRecord;
+use crate::player::types::{Operation, Policy, Reason, Row, SECTOR};
+use crate::player::zone::{Zone, FULL};
 
 /// So many cases are counted.
 pub const CASES: usize = 9;
@@ -41,19 +40,44 @@ pub struct Pointers {
     pub counts: [u64; CASES],
 }
 
-impl Pointers {
-    /// Counts one tape, up to the record where a player stops.
-    pub fn count_tape(&mut self, tape: &[u8]) {
-        let mut reader = Reader::new(tape);
-        let Some((_, input)) = read_input(&mut reader) else { return };
-        let Ok(zones) = decode_report(&input.report) else { return };
-        match mount_volume(&input) {
-            Ok(volume) => self.count_run(&sequential_files(&zones), volume, &mut reader),
-            Err(Refusal::BadZone(number)) => self.count_bad_zone(&input, zones, number),
-            Err(_) => {}
+impl Counter for Pointers {
+    /// The pointer is the last reason, so it is the only one where it is given.
+    fn bad_zone(&mut self, _block: u64, zones: &[Zone], number: usize, reason: Reason) {
+        let past = is_past_capacity(&zones[number]);
+        self.count(Case::PastCapacityAtMount, past && reason == Reason::Pointer);
+    }
+
+    fn call(&mut self, zones: &[Zone], call: &CallRecord, answered: bool) {
+        if answered && call.kind == 1 {
+            let zone = sequential_file(zones, call.number as usize);
+            self.count(Case::StrayMounted, zone.is_some_and(is_stray));
+            self.count(Case::EndMounted, zone.is_some_and(is_open_at_end));
         }
     }
 
+    fn failure(&mut self, failure: &Failure) {
+        let zone = Zone::decode(failure.record, true);
+        if failure.answer.is_err() {
+            let mut full = failure.record.to_vec();
+            full[25] = FULL;
+            let still_bad = failure.before.clone().fail(&full, true).is_err();
+            self.count(Case::PastCapacityInRecord, is_past_capacity(&zone) && !still_bad);
+            return;
+        }
+        self.count(Case::StrayRecord, is_stray(&zone));
+        self.count(Case::EndRecord, is_open_at_end(&zone));
+        if failure.held.command.operation == Operation::Read && is_stray(&zone) {
+            self.count_stray_read(
+                failure.before.mount.policy,
+                &zone,
+                failure.row(failure.before),
+                failure.row(failure.after),
+            );
+        }
+    }
+}
+
+impl Pointers {
     pub fn add(&mut self, other: &Pointers) {
         for (sum, count) in self.counts.iter_mut().zip(other.counts) {
             *sum += count;
@@ -62,52 +86,6 @@ impl Pointers {
 
     fn count(&mut self, case: Case, came: bool) {
         self.counts[case as usize] += u64::from(came);
-    }
-
-    fn count_bad_zone(&mut self, input: &Input, mut zones: Vec<Zone>, number: usize) {
-        let past = is_past_capacity(&zones[number]);
-        zones[number].condition = FULL;
-        let still_bad = check_zones(&zones, u64::from(input.block)) == Err(Refusal::BadZone(number));
-        self.count(Case::PastCapacityAtMount, past && !still_bad);
-    }
-
-    /// `mounted` has the zone of each sequential file, as the mount got it.
-    fn count_run(&mut self, mounted: &[Zone], mut volume: Volume, reader: &mut Reader) {
-        while let Next::Record(record) = reader.read() {
-            match record {
-                Record::Call(call) => {
-                    let answered = volume.recorded_call(&call).is_ok();
-                    let zone = mounted.get(call.number as usize).filter(|_| answered && call.kind == 1);
-                    self.count(Case::StrayMounted, zone.is_some_and(is_stray));
-                    self.count(Case::EndMounted, zone.is_some_and(is_open_at_end));
-                }
-                // The answer is compared elsewhere.
-                Record::Good => drop(volume.succeed()),
-                Record::Failed(bytes) => self.count_failure(&mut volume, bytes),
-                Record::Block(_) | Record::SuperBlock(_) | Record::Report(_) | Record::Options(_) => return,
-            }
-        }
-    }
-
-    fn count_failure(&mut self, volume: &mut Volume, record: &[u8]) {
-        let Some(held) = volume.mount.held else { return };
-        let zone = Zone::decode(record, true);
-        let before = row(volume, &held);
-        match volume.fail(record, true) {
-            Ok(_) => {
-                self.count(Case::StrayRecord, is_stray(&zone));
-                self.count(Case::EndRecord, is_open_at_end(&zone));
-                if held.command.operation == Operation::Read && is_stray(&zone) {
-                    self.count_stray_read(volume.mount.policy, &zone, &before, &row(volume, &held));
-                }
-            }
-            Err(_) => {
-                let mut full = record.to_vec();
-                full[25] = FULL;
-                let still_bad = volume.clone().fail(&full, true).is_err();
-                self.count(Case::PastCapacityInRecord, is_past_capacity(&zone) && !still_bad);
-            }
-        }
     }
 
     /// Under repair a row that has its capacity stays as it is with a recovery too, so that shows nothing.
@@ -120,13 +98,9 @@ impl Pointers {
     }
 }
 
-/// Zone 0 is no file.
-fn sequential_files(zones: &[Zone]) -> Vec<Zone> {
-    zones.iter().skip(1).filter(|zone| !zone.is_conventional()).copied().collect()
-}
-
-fn row(volume: &Volume, held: &Held) -> Row {
-    volume.rows(held.kind)[held.number as usize]
+/// The zone of a file. Zone 0 is none.
+fn sequential_file(zones: &[Zone], number: usize) -> Option<&Zone> {
+    zones.iter().skip(1).filter(|zone| !zone.is_conventional()).nth(number)
 }
 
 /// So many sectors behind the zone's start.

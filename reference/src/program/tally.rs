@@ -1,8 +1,10 @@
-//! What a comparison has reached: answers by mark, pointers, and the consistency check's own numbers.
+//! What a comparison has reached: answers by mark, pointers, reasons, and the consistency check's own numbers.
 
 use std::collections::BTreeMap;
 
+use super::counter::Counter;
 use super::pointers::{Pointers, CASE_NAMES};
+use super::reasons::{Reasons, OF_RECORDS, OF_ZONES, RECORD_PAIRS, ZONE_PAIRS};
 use crate::disk::consistency::Compared;
 use crate::disk::truth::FREEDOM_NAMES;
 
@@ -28,6 +30,8 @@ pub struct Tally {
     answers: BTreeMap<(String, String), u64>,
     /// Pointers on the tapes, by what came of them.
     pub pointers: Pointers,
+    /// What 29 and 9 said was bad.
+    pub reasons: Reasons,
     /// What the consistency check saw while the tapes were made.
     pub compared: Compared,
 }
@@ -44,12 +48,19 @@ impl Tally {
         self.lines += 1;
     }
 
+    /// Counts what isn't in the lines.
+    pub fn count_tape(&mut self, tape: &[u8]) {
+        self.pointers.count_tape(tape);
+        self.reasons.count_tape(tape);
+    }
+
     pub fn add(&mut self, other: &Tally) {
         self.tapes += other.tapes;
         self.lines += other.lines;
         self.exits += other.exits;
         self.compared.add(&other.compared);
         self.pointers.add(&other.pointers);
+        self.reasons.add(&other.reasons);
         for (key, count) in &other.answers {
             *self.answers.entry(key.clone()).or_default() += count;
         }
@@ -68,6 +79,7 @@ impl Tally {
         for (name, _) in CASE_NAMES.iter().zip(self.pointers.counts).filter(|(_, count)| *count == 0) {
             missing.push(name.to_string());
         }
+        missing.extend(self.reasons.missing());
         for (index, _) in self.compared.exceptions.iter().enumerate().filter(|(_, &count)| count == 0) {
             missing.push(format!("exception {} of the consistency check", index + 1));
         }
@@ -103,6 +115,18 @@ impl Tally {
         answers
     }
 
+    /// Those given, and those before the next one.
+    fn reasons_text(&self) -> String {
+        let Reasons { zones, records, lower_behind } = &self.reasons;
+        format!(
+            "reasons of 29 {}, of 9 {}, before the next one {} and {}, before a lower one of a later zone {lower_behind}",
+            counts_text(&zones.given[OF_ZONES]),
+            counts_text(&records.given[OF_RECORDS]),
+            counts_text(&zones.before_next[ZONE_PAIRS]),
+            counts_text(&records.before_next[RECORD_PAIRS]),
+        )
+    }
+
     /// One line on a single tape.
     pub fn tape_summary(&self, bytes: usize) -> String {
         let calls: u64 = ["RD", "WR", "TR", "FL"].iter().map(|mark| self.count(mark, None)).sum();
@@ -117,9 +141,9 @@ impl Tally {
         let Compared { states, rows, exceptions, failures, records, reports, impossible } = self.compared;
         let (exceptions, records, reports) =
             (counts_text(&exceptions), counts_text(&records), counts_text(&reports));
-        let pointers = counts_text(&self.pointers.counts);
+        let (pointers, reasons) = (counts_text(&self.pointers.counts), self.reasons_text());
         format!(
-            "{} tapes, {} lines alike ({answers}), nonzero exits {}; fresh mounts {states}, rows {rows}, exceptions {exceptions}, failures {failures}, other bytes in records {records} and in reports {reports}, copies answered 10 {impossible}, pointers {pointers}",
+            "{} tapes, {} lines alike ({answers}), nonzero exits {}; fresh mounts {states}, rows {rows}, exceptions {exceptions}, failures {failures}, other bytes in records {records} and in reports {reports}, copies answered 10 {impossible}, pointers {pointers}, {reasons}",
             self.tapes, self.lines, self.exits
         )
     }

@@ -3,6 +3,7 @@
 use super::*;
 use crate::disk::answers::{call_fault, completion_fault};
 use crate::player::calls::Reply::Done;
+use crate::player::types::Reason;
 
 /// The refusal with each number that a call or a completion can have.
 const REFUSALS: [Refusal; 9] = [
@@ -13,7 +14,7 @@ const REFUSALS: [Refusal; 9] = [
     Refusal::BeyondCapacity,
     Refusal::NotAppending,
     Refusal::NothingOutstanding,
-    Refusal::RecordMismatch,
+    Refusal::RecordMismatch(Reason::OtherZone),
     Refusal::Impossible,
 ];
 

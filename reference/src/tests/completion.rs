@@ -1,9 +1,14 @@
 //! Completions: numbers 7 to 10 and the recovery table.
 
 use super::*;
-use crate::player::types::{Access, Command, Condition, Held, Operation, Row};
+use crate::player::types::{Access, Command, Condition, Held, Operation, Reason, Row};
 
 const OPTIONS: [&str; 4] = ["errors=remount-ro", "errors=zone-ro", "errors=zone-offline", "errors=repair"];
+
+/// Answer 9 with a reason.
+fn mismatch(reason: Reason) -> Result<u64, Refusal> {
+    Err(Refusal::RecordMismatch(reason))
+}
 
 /// Zone 3 of the sheet with this pointer and condition.
 fn sequential(pointer: u64, condition: u8) -> [u8; 64] {
@@ -121,24 +126,24 @@ fn records_that_do_not_fit() {
     volume.call(&write(SEQ, 0, 4096, 8192)).unwrap();
     let before = volume.clone();
     let bad = [
-        zone(S + 8, 524288, S + 8, 2, 2, 393216),
-        zone(S, 524288, S + 8, 2, 2, 393208),
-        zone(S, 524288, S + 8, 1, 0, 524288),
-        zone(S, 524288, S + 4, 2, 2, 393216),
-        zone(S, 524288, S + 8, 2, 14, 393208),
-        zone(S + 8, 524288, S + 8, 2, 14, 393216),
-        zone(S, 393208, S + 393216, 2, 14, 393216),
-        zone(S, 524288, S + 8, 1, 14, 524288),
-        zone(S, 524288, S + 8, 2, 0, 393216),
-        zone(S, 393208, S + 8, 2, 2, 393216),
-        zone(S, 1 << 40, S + 8, 2, 2, 393216),
+        (zone(S + 8, 524288, S + 8, 2, 2, 393216), Reason::OtherZone),
+        (zone(S, 524288, S + 8, 2, 2, 393208), Reason::OtherZone),
+        (zone(S, 524288, S + 8, 1, 0, 524288), Reason::OtherZone),
+        (zone(S, 524288, S + 4, 2, 2, 393216), Reason::Pointer),
+        (zone(S, 524288, S + 8, 2, 14, 393208), Reason::OtherZone),
+        (zone(S + 8, 524288, S + 8, 2, 14, 393216), Reason::OtherZone),
+        (zone(S, 393208, S + 393216, 2, 14, 393216), Reason::Capacity),
+        (zone(S, 524288, S + 8, 1, 14, 524288), Reason::Condition),
+        (zone(S, 524288, S + 8, 2, 0, 393216), Reason::Condition),
+        (zone(S, 393208, S + 8, 2, 2, 393216), Reason::Capacity),
+        (zone(S, 1 << 40, S + 8, 2, 2, 393216), Reason::End),
     ];
-    for zone in bad {
-        assert_eq!(volume.fail(&record(&zone), true), Err(Refusal::RecordMismatch), "{zone:?}");
+    for (zone, reason) in bad {
+        assert_eq!(volume.fail(&record(&zone), true), mismatch(reason), "{zone:?}");
     }
-    assert_eq!(volume.fail(&sequential(1572880, 2)[..63], true), Err(Refusal::RecordMismatch));
+    assert_eq!(volume.fail(&sequential(1572880, 2)[..63], true), mismatch(Reason::NoRecord));
     // Without the flag the capacity is the length, which isn't the row's.
-    assert_eq!(volume.fail(&sequential(1572880, 2), false), Err(Refusal::RecordMismatch));
+    assert_eq!(volume.fail(&sequential(1572880, 2), false), mismatch(Reason::OtherZone));
     assert_eq!(volume, before);
 }
 
@@ -155,7 +160,7 @@ fn a_bad_pointer_does_not_fit_unless_the_zone_is_full() {
             volume.call(&write(SEQ, 0, 4096, 8192)).unwrap();
             let before = volume.clone();
             let answer = volume.fail(&sequential(pointer, condition), true);
-            assert_eq!(answer, Err(Refusal::RecordMismatch), "pointer {pointer} condition {condition}");
+            assert_eq!(answer, mismatch(Reason::Pointer), "pointer {pointer} condition {condition}");
             assert_eq!(volume, before);
             assert_eq!(volume.fail(&sequential(pointer, 14), true), Ok(201326592), "pointer {pointer}");
         }
@@ -257,19 +262,19 @@ fn a_full_record_does_not_better_a_zone() {
     volume.seq[0].condition = Condition::ReadOnly;
     volume.seq[0].access = Access::Read;
     volume.call(&read(SEQ, 0, 0, 4096)).unwrap();
-    assert_eq!(volume.fail(&sequential(0, 14), true), Err(Refusal::RecordMismatch));
+    assert_eq!(volume.fail(&sequential(0, 14), true), mismatch(Reason::BetterCondition));
 }
 
 #[test]
 fn conventional_records_lie_within_the_file() {
     let mut volume = mount_volume(&input_with(1, "", &sheet_zones())).unwrap();
     volume.call(&write(CNV, 0, 0, 5)).unwrap();
-    for (start, length) in
-        [(0, 524288), (524288 - 8, 16), (1048576, 524296), (1572864, 8), (u64::MAX - 7, 16)]
-    {
+    for (start, length) in [(0, 524288), (524288 - 8, 16), (1048576, 524296), (1572864, 8)] {
         let zone = zone(start, length, 0, 1, 0, length);
-        assert_eq!(volume.fail(&record(&zone), true), Err(Refusal::RecordMismatch), "{zone:?}");
+        assert_eq!(volume.fail(&record(&zone), true), mismatch(Reason::OtherZone), "{zone:?}");
     }
+    let past_every_disk = zone(u64::MAX - 7, 16, 0, 1, 0, 16);
+    assert_eq!(volume.fail(&record(&past_every_disk), true), mismatch(Reason::End));
     for (start, length) in [(524288, 1048576), (1572856, 8), (524289, 8)] {
         let zone = zone(start, length, 0, 1, 13, length);
         assert_eq!(volume.clone().fail(&record(&zone), true), Ok(536870912), "{zone:?}");
@@ -282,7 +287,7 @@ fn a_sequential_zone_does_not_get_better() {
     volume.seq[0].condition = Condition::ReadOnly;
     volume.seq[0].access = Access::Read;
     volume.call(&read(SEQ, 0, 0, 4096)).unwrap();
-    assert_eq!(volume.fail(&sequential(1572872, 2), true), Err(Refusal::RecordMismatch));
+    assert_eq!(volume.fail(&sequential(1572872, 2), true), mismatch(Reason::BetterCondition));
     assert_eq!(volume.fail(&sequential(1572872, 13), true), Ok(4096));
     assert_eq!(volume.seq[0].condition, Condition::ReadOnly);
 }

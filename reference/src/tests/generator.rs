@@ -7,7 +7,11 @@ use crate::generator::random::Random;
 use crate::generator::{generate, long, Generated, MAX_PAD};
 use crate::player::play::play;
 use crate::player::tape::{Next, Reader, Record, Verb};
+use crate::player::types::{FileKind, Reason, Refusal};
+use crate::player::zone::Zone;
+use crate::program::counter::{Counter, Failure};
 use crate::program::pointers::CASE_NAMES;
+use crate::program::reasons::Reasons;
 use crate::program::tally::Tally;
 
 /// The first tapes of seed 1, made once for all tests.
@@ -61,7 +65,7 @@ fn the_check_holds_and_sees_much() {
     let mut tally = Tally::default();
     for generated in &tapes()[..150] {
         tally.compared.add(generated.check.as_ref().unwrap());
-        tally.pointers.count_tape(&generated.bytes);
+        tally.count_tape(&generated.bytes);
         play(&generated.bytes).iter().for_each(|line| tally.count_line(&line.text));
     }
     assert!(tally.compared.exceptions.iter().all(|&count| count > 0), "{}", tally.summary());
@@ -75,10 +79,51 @@ fn the_check_holds_and_sees_much() {
 #[test]
 fn the_tapes_have_every_pointer() {
     let mut tally = Tally::default();
-    tapes().iter().for_each(|generated| tally.pointers.count_tape(&generated.bytes));
+    tapes().iter().for_each(|generated| tally.count_tape(&generated.bytes));
     let missing = tally.missing();
     let never: Vec<&str> = CASE_NAMES.into_iter().filter(|name| missing.iter().any(|m| m == name)).collect();
     assert!(never.is_empty(), "never came: {never:?}");
+}
+
+/// The reasons that came with 29, and those with 9 for files of each kind.
+#[derive(Default)]
+struct ReasonsSeen {
+    zones: BTreeSet<u64>,
+    cnv: BTreeSet<u64>,
+    seq: BTreeSet<u64>,
+}
+
+impl Counter for ReasonsSeen {
+    fn bad_zone(&mut self, _block: u64, _zones: &[Zone], _number: usize, reason: Reason) {
+        self.zones.insert(reason.number());
+    }
+
+    fn failure(&mut self, failure: &Failure) {
+        let Err(Refusal::RecordMismatch(reason)) = failure.answer else { return };
+        let of_kind = match failure.held.kind {
+            FileKind::Conventional => &mut self.cnv,
+            FileKind::Sequential => &mut self.seq,
+        };
+        of_kind.insert(reason.number());
+    }
+}
+
+/// No condition is too good for a conventional file, and no record on a tape is cut.
+#[test]
+fn the_tapes_have_every_reason_in_every_place() {
+    let mut seen = ReasonsSeen::default();
+    tapes().iter().for_each(|generated| seen.count_tape(&generated.bytes));
+    assert_eq!(seen.zones, BTreeSet::from_iter(1..=7));
+    assert_eq!(seen.cnv, BTreeSet::from_iter(2..=8));
+    assert_eq!(seen.seq, BTreeSet::from_iter(2..=9));
+}
+
+/// Each reason comes together with the next one, so that a player with another order is found.
+#[test]
+fn the_tapes_have_every_order_of_reasons() {
+    let mut reasons = Reasons::default();
+    tapes().iter().for_each(|generated| reasons.count_tape(&generated.bytes));
+    assert_eq!(reasons.missing(), Vec::<String>::new());
 }
 
 /// The tapes of checked runs have failures in all bytes that are true of a zone, and as many as their runs had.
@@ -132,7 +177,7 @@ fn missing_answers_are_named() {
     let of_a_full_zone =
         ["a true record", "a true report"].map(|what| format!("{what} with another pointer of a full zone"));
     assert!(of_a_full_zone.iter().all(|name| all.contains(name)));
-    tally.count_line("MO 29 3");
+    tally.count_line("MO 29 3 7");
     tally.count_line("RD 0 R 512 7");
     tally.count_line("OK 0 5");
     let missing = tally.missing();
@@ -140,7 +185,7 @@ fn missing_answers_are_named() {
     tally.pointers.counts = [0, 1, 1, 1, 1, 1, 1, 1, 1];
     assert_eq!(tally.missing().len(), all.len() - 11);
     assert!(tally.missing().contains(&"a call on a file mounted with a stray pointer".to_string()));
-    assert!(tally.summary().ends_with(", pointers 0/1/1/1/1/1/1/1/1"));
+    assert!(tally.summary().contains(", pointers 0/1/1/1/1/1/1/1/1, "));
     assert!(!missing.contains(&"MO 29".to_string()) && !missing.contains(&"RD R".to_string()));
     assert_eq!(
         tally.summary().split(", nonzero").next(),

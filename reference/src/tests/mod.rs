@@ -8,6 +8,7 @@ mod consistency;
 mod generator;
 mod mount;
 mod pointers;
+mod reasons;
 mod sheet;
 mod tape;
 mod truthful;

@@ -69,11 +69,11 @@ fn report_header() {
 }
 
 /// The number of the bad zone, if zone 3 is this one.
-fn bad_zone(third: Zone) -> Option<usize> {
+fn bad_zone(third: Zone) -> Option<u32> {
     let mut zones = sheet_zones();
     zones[3] = third;
     match mount_volume(&input_with(0, "", &zones)) {
-        Err(Refusal::BadZone(number)) => Some(number),
+        Err(Refusal::BadZone { zone, .. }) => Some(zone),
         other => {
             assert!(other.is_ok());
             None

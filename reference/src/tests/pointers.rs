@@ -3,6 +3,7 @@
 use super::*;
 use crate::generator::records::{encode, head};
 use crate::player::tape::{CallRecord, Record, Verb};
+use crate::program::counter::Counter;
 use crate::program::pointers::{Pointers, CASES};
 
 /// Start, length and capacity of the sheet's zone 3, which has 4096 bytes at mount.

@@ -55,7 +55,7 @@ fn bad_zone_is_named() {
     let mut zones = sheet_zones();
     zones[2].length = 8;
     zones[4].kind = 9;
-    assert_eq!(lines(&head(&input_with(0, "", &zones))), ["MO 29 2"]);
+    assert_eq!(lines(&head(&input_with(0, "", &zones))), ["MO 29 2 3"]);
 }
 
 /// Mark by mark as bytes, so that the layout of a call stands here once more.

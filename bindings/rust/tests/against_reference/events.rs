@@ -85,8 +85,7 @@ impl Event {
 pub type Answer = (u64, Vec<u64>);
 
 fn refused(refusal: Refusal) -> Answer {
-    let values = if let Refusal::BadZone(zone) = refusal { vec![zone as u64] } else { vec![] };
-    (u64::from(refusal.number()), values)
+    (u64::from(refusal.number()), refusal.values())
 }
 
 /// The refusal of a kind that there isn't: 10 for the counts comes before 1.

@@ -13,7 +13,7 @@ use reference::player::mount::Input;
 use reference::player::play::read_input;
 use reference::player::tape::{Next, Reader};
 use reference::player::types::MAX_FILES;
-use zonefs::words::ANSWER_WORDS;
+use zonefs::words::{ANSWER_RECORD_REASON, ANSWER_WORDS, ANSWER_ZONE_REASON};
 
 /// The mount of a tape; None if it isn't there whole.
 fn input_of(reader: &mut Reader) -> Option<Input> {
@@ -60,23 +60,32 @@ fn tape_event(random: &mut Random, reader: &mut Reader) -> Option<Event> {
     Event::of_record(&record, || random.below(2) as u32)
 }
 
-/// How often each number was answered.
+/// How often each number was answered, and how often each reason of a bad zone and of a bad record.
 #[derive(Default)]
-struct Seen([u64; 31]);
+struct Seen {
+    numbers: [u64; 31],
+    zone_reasons: [u64; 10],
+    record_reasons: [u64; 10],
+}
 
 impl Seen {
-    fn note(&mut self, number: u64) {
-        self.0[number as usize] += 1;
+    fn note(&mut self, number: u64, answer: &[u64]) {
+        self.numbers[number as usize] += 1;
+        match number {
+            9 => self.record_reasons[answer[ANSWER_RECORD_REASON] as usize] += 1,
+            29 => self.zone_reasons[answer[ANSWER_ZONE_REASON] as usize] += 1,
+            _ => {}
+        }
     }
 
     fn total(&self) -> u64 {
-        self.0.iter().sum()
+        self.numbers.iter().sum()
     }
+}
 
-    fn all_of(&self, numbers: &[usize]) {
-        for &number in numbers {
-            assert!(self.0[number] > 0, "the inputs never led to {number}");
-        }
+fn all_seen(what: &str, seen: &[u64], expected: &[usize]) {
+    for &one in expected {
+        assert!(seen[one] > 0, "the inputs never led to {what} {one}");
     }
 }
 
@@ -84,7 +93,8 @@ impl Seen {
 fn play(lent: &mut Lent, reader: &mut Reader, seen: &mut Seen) {
     while let Next::Record(record) = reader.read() {
         let Some(event) = Event::of_record(&record, || 1) else { return };
-        seen.note(check(lent, &event));
+        let number = check(lent, &event);
+        seen.note(number, &lent.answer);
     }
 }
 
@@ -99,14 +109,16 @@ fn tapes_give_the_same() {
         let rows = random.pick(&[MAX_FILES, 60, 60, 60, 60, 20, 2, 0]);
         let mut lent = Lent::any(&mut random, rows);
         let number = check_mount(&mut lent, &input);
-        seen.note(number);
+        seen.note(number, &lent.answer);
         if number == 0 {
             play(&mut lent, &mut reader, &mut seen);
         }
     }
-    seen.all_of(&[0, 1, 2, 3, 4, 5, 6, 7, 8, 9]);
+    all_seen("number", &seen.numbers, &[0, 1, 2, 3, 4, 5, 6, 7, 8, 9]);
     println!("tapes: {} mounts, calls and completions, all as the reference has them", seen.total());
-    seen.all_of(&[20, 22, 23, 24, 25, 26, 27, 28, 29, 30]);
+    all_seen("number", &seen.numbers, &[20, 22, 23, 24, 25, 26, 27, 28, 29, 30]);
+    all_seen("a zone's reason", &seen.zone_reasons, &[1, 2, 3, 4, 5, 6, 7]);
+    all_seen("a record's reason", &seen.record_reasons, &[2, 3, 4, 5, 6, 7, 8, 9]);
 }
 
 /// Changes a word or a length of what is lent.
@@ -149,10 +161,13 @@ fn any_words_give_the_same() {
             }
             let from_tape = if random.percent(60) { tape_event(&mut random, &mut reader) } else { None };
             let event = from_tape.unwrap_or_else(|| any_event(&mut random));
-            seen.note(check(&mut lent, &event));
+            let number = check(&mut lent, &event);
+            seen.note(number, &lent.answer);
         }
     }
-    seen.all_of(&[0, 1, 2, 3, 4, 5, 6, 7, 8, 9, 10]);
+    all_seen("number", &seen.numbers, &[0, 1, 2, 3, 4, 5, 6, 7, 8, 9, 10]);
+    // Only here a record may have another length.
+    all_seen("a record's reason", &seen.record_reasons, &[0]);
     println!("any words: {} calls and completions, all as the reference has them", seen.total());
     assert!(seen.total() > 100_000);
 }

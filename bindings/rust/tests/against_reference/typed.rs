@@ -25,7 +25,8 @@ fn rows(words: &[u64]) -> Vec<RowWords> {
 fn refused(refusal: Refusal) -> Answer {
     let values = match refusal {
         Refusal::Failed { size } => vec![size],
-        Refusal::BadZone { zone } => vec![zone],
+        Refusal::BadRecord { reason } => vec![reason.code()],
+        Refusal::BadZone { zone, reason } => vec![zone, reason.code()],
         _ => vec![],
     };
     (refusal.number(), values)

@@ -1,6 +1,7 @@
 use mathlib.Core.Path.{_∙_, sym, ap}
 use borrow.Author.Tests.{not-true, not-false}
 use Rattle.capi.specs.Interface.{told, stepWords}
+use Rattle.capi.proofs.Told.{told-so}
 use borrow.Author.Needs.{needs}
 use Rattle.capi.proofs.call.Statement.{statement}
 use Rattle.capi.proofs.call.Tie as tie
@@ -21,8 +22,11 @@ mount-from-requires c κs = c .before .before .is-usable .ensures .1 (not-false 
 call-requires : tie.Need-call-requires
 call-requires c κs = search needs
 
+put-state-requires : tie.Need-put-state-requires
+put-state-requires c κs = c .before .before .before .before .before .before .is-usable .ensures .1 (not-false _ (c .before .before .before .before .before .if1 .left)) .0
+
 tell-requires : tie.Need-tell-requires
-tell-requires c κs = c .before .before .before .before .before .before .is-usable .ensures .1 (not-false _ (c .before .before .before .before .before .if1 .left))
+tell-requires c κs = c .before .before .before .before .before .before .before .before .before .before .is-usable .ensures .1 (not-false _ (c .before .before .before .before .before .before .before .before .before .if1 .left)) .1
 
 same-length-2 : tie.Need-same-length-2
 same-length-2 c = search needs
@@ -32,11 +36,12 @@ same-length-3 c = search needs
 
 returns-2 : tie.Need-returns-2
 unfolding stepWords
-returns-2 c = let e = sym (c .before .before .before .before .before .before .before .before .before .before .before .is-usable .ensures .0) ∙ not-false _ (c .before .before .before .before .before .before .before .before .before .before .if1 .left) in
-    let t = c .before .before .before .before .tell .ensures in
-    let o = c .before .before .before .before .before .call .ensures in
-    let m = c .before .before .before .before .before .before .before .before .mount-from .ensures in
-    rw (e, ← m) (ap (told _ _) o ∙ t _ _)
+returns-2 c =
+    let e = sym (c .before .before .before .before .before .before .before .before .before .before .before .before .before .is-usable .ensures .0) ∙ not-false _ (c .before .before .before .before .before .before .before .before .before .before .before .before .if1 .left) in
+    let m = c .before .before .before .before .before .before .before .before .before .before .mount-from .ensures in
+    let o = c .before .before .before .before .before .before .before .before .before .call in
+    let t = told-so _ _ _ _ (o .result) (sym (c .before .before .before .before .before .before .put-state .ensures)) (c .before .before .tell .ensures) in
+    rw (e, ← m) (ap (told _ _) (o .ensures) ∙ t)
 
 pub call-spec : {M : Type 1} → statement M
 call-spec =
@@ -47,6 +52,7 @@ call-spec =
     returns
     mount-from-requires
     call-requires
+    put-state-requires
     tell-requires
     same-length-2
     same-length-3

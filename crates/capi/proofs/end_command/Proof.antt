@@ -1,6 +1,7 @@
 use mathlib.Core.Path.{_∙_, sym}
 use borrow.Author.Tests.{not-true, not-false}
 use Rattle.capi.specs.Interface.{stepWords}
+use Rattle.capi.proofs.Told.{told-so}
 use borrow.Author.Needs.{needs}
 use Rattle.capi.proofs.end_command.Statement.{statement}
 use Rattle.capi.proofs.end_command.Tie as tie
@@ -21,8 +22,11 @@ mount-from-requires c κs = c .before .before .is-usable .ensures .1 (not-false 
 end-command-requires : tie.Need-end-command-requires
 end-command-requires c κs = search needs
 
+put-state-requires : tie.Need-put-state-requires
+put-state-requires c κs = c .before .before .before .before .before .before .before .before .before .before .before .before .is-usable .ensures .1 (not-false _ (c .before .before .before .before .before .before .before .before .before .before .before .if1 .left)) .0
+
 tell-requires : tie.Need-tell-requires
-tell-requires c κs = c .before .before .before .before .before .before .before .before .before .before .before .before .is-usable .ensures .1 (not-false _ (c .before .before .before .before .before .before .before .before .before .before .before .if1 .left))
+tell-requires c κs = c .before .before .before .before .before .before .before .before .before .before .before .before .before .before .before .before .is-usable .ensures .1 (not-false _ (c .before .before .before .before .before .before .before .before .before .before .before .before .before .before .before .if1 .left)) .1
 
 same-length-2 : tie.Need-same-length-2
 same-length-2 c = search needs
@@ -38,11 +42,12 @@ same-length-5 c = search needs
 
 returns-2 : tie.Need-returns-2
 unfolding stepWords
-returns-2 c = let e = sym (c .before .before .before .before .before .before .before .before .before .before .before .before .before .before .before .before .before .is-usable .ensures .0) ∙ not-false _ (c .before .before .before .before .before .before .before .before .before .before .before .before .before .before .before .before .if1 .left) in
-    let t = c .before .before .before .before .tell .ensures _ _ in
-    let o = c .before .before .before .before .before .before .before .before .before .end-command .ensures in
-    let m = c .before .before .before .before .before .before .before .before .before .before .before .before .before .before .mount-from .ensures in
-    rw (e, ← m, o) t
+returns-2 c =
+    let e = sym (c .before .before .before .before .before .before .before .before .before .before .before .before .before .before .before .before .before .before .before .is-usable .ensures .0) ∙ not-false _ (c .before .before .before .before .before .before .before .before .before .before .before .before .before .before .before .before .before .before .if1 .left) in
+    let m = c .before .before .before .before .before .before .before .before .before .before .before .before .before .before .before .before .mount-from .ensures in
+    let o = c .before .before .before .before .before .before .before .before .before .before .before .before .before .end-command in
+    let t = told-so _ _ _ _ (o .result) (sym (c .before .before .before .before .before .before .put-state .ensures)) (c .before .before .tell .ensures) in
+    rw (e, ← m, o .ensures) t
 
 pub end-command-spec : {M : Type 1} → statement M
 end-command-spec =
@@ -53,6 +58,7 @@ end-command-spec =
     returns
     mount-from-requires
     end-command-requires
+    put-state-requires
     tell-requires
     same-length-2
     same-length-3

@@ -3,9 +3,6 @@ use borrow.Author.Needs.{needs}
 use Rattle.capi.proofs.tell.Statement.{statement}
 use Rattle.capi.proofs.tell.Tie as tie
 
-put-state-requires : tie.Need-put-state-requires
-put-state-requires c κs = search needs
-
 answer-values-requires : tie.Need-answer-values-requires
 answer-values-requires c κs = search needs
 
@@ -18,21 +15,16 @@ answer-number-requires c κs = search needs
 same-length : tie.Need-same-length
 same-length c = search needs
 
-same-length-2 : tie.Need-same-length-2
-same-length-2 c = search needs
-
 returns : tie.Need-returns
 unfolding answerWords
-returns c = λ cnv seq. simp (c .answer-number .ensures, c .before .before .before .before .before .before .before .before .put-state .ensures, c .before .before .before .put-values .ensures, c .before .before .before .before .answer-values .ensures)
+returns c = (simp (c .answer-number .ensures), simp (c .before .before .before .put-values .ensures, c .before .before .before .before .answer-values .ensures))
 
 pub tell-spec : {M : Type 1} → statement M
 tell-spec =
     tie.close
     (tie.spec
-    put-state-requires
     answer-values-requires
     put-values-requires
     answer-number-requires
     same-length
-    same-length-2
     returns)

@@ -1,4 +1,4 @@
-use Rattle.zones.specs.Faults.{recordFault}
+use Rattle.zones.specs.Faults.{firstFault, recordFault}
 use borrow.Author.Needs.{needs}
 use Rattle.zones.proofs.record_fault.Statement.{statement}
 use Rattle.zones.proofs.record_fault.Tie as tie
@@ -40,7 +40,7 @@ fault-unless-requires-6 : tie.Need-fault-unless-requires-6
 fault-unless-requires-6 c κs = search needs
 
 returns : tie.Need-returns
-unfolding recordFault
+unfolding recordFault firstFault
 returns c = rw (c .fault-unless6 .ensures, c .before .good-length .ensures, c .before .before .fault-unless5 .ensures, c .before .before .before .good-capacity .ensures, c .before .before .before .before .fault-unless4 .ensures, c .before .before .before .before .before .good-end .ensures, c .before .before .before .before .before .before .fault-unless3 .ensures, c .before .before .before .before .before .before .before .good-type .ensures, c .before .before .before .before .before .before .before .before .fault-unless2 .ensures, c .before .before .before .before .before .before .before .before .before .good-condition .ensures, c .before .before .before .before .before .before .before .before .before .before .fault-unless .ensures, c .before .before .before .before .before .before .before .before .before .before .before .good-pointer .ensures)
 
 pub record-fault-spec : {M : Type 1} → statement M

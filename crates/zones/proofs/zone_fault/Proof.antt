@@ -1,4 +1,4 @@
-use Rattle.zones.specs.Faults.{zoneFault}
+use Rattle.zones.specs.Faults.{firstFault, recordFault, zoneFault}
 use borrow.Author.Needs.{needs}
 use Rattle.zones.proofs.zone_fault.Statement.{statement}
 use Rattle.zones.proofs.zone_fault.Tie as tie
@@ -13,7 +13,7 @@ fault-unless-requires : tie.Need-fault-unless-requires
 fault-unless-requires c κs = search needs
 
 returns : tie.Need-returns
-unfolding zoneFault
+unfolding zoneFault recordFault firstFault
 returns c = rw (c .fault-unless .ensures, c .before .starts-at .ensures, c .before .before .record-fault .ensures)
 
 pub zone-fault-spec : {M : Type 1} → statement M

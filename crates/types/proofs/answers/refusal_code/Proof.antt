@@ -50,6 +50,15 @@ enum-told-7 c = search needs
 plain-requires-7 : tie.Need-plain-requires-7
 plain-requires-7 c κs = search needs
 
+enum-known-x-2 : tie.Need-enum-known-x-2
+enum-known-x-2 c = search needs
+
+fault-code-requires : tie.Need-fault-code-requires
+fault-code-requires c κs = search needs
+
+with-value-requires-2 : tie.Need-with-value-requires-2
+with-value-requires-2 c κs = search needs
+
 enum-told-8 : tie.Need-enum-told-8
 enum-told-8 c = search needs
 
@@ -110,26 +119,23 @@ enum-told-17 c = search needs
 plain-requires-17 : tie.Need-plain-requires-17
 plain-requires-17 c κs = search needs
 
+enum-known-x-3 : tie.Need-enum-known-x-3
+enum-known-x-3 c = search needs
+
+cast-with-two : tie.Need-cast-with-two
+cast-with-two c = search needs
+
+fault-code-requires-2 : tie.Need-fault-code-requires-2
+fault-code-requires-2 c κs = search needs
+
+with-two-requires : tie.Need-with-two-requires
+with-two-requires c κs = search needs
+
 enum-told-18 : tie.Need-enum-told-18
 enum-told-18 c = search needs
 
 plain-requires-18 : tie.Need-plain-requires-18
 plain-requires-18 c κs = search needs
-
-enum-known-x-2 : tie.Need-enum-known-x-2
-enum-known-x-2 c = search needs
-
-cast-with-value : tie.Need-cast-with-value
-cast-with-value c = search needs
-
-with-value-requires-2 : tie.Need-with-value-requires-2
-with-value-requires-2 c κs = search needs
-
-enum-told-19 : tie.Need-enum-told-19
-enum-told-19 c = search needs
-
-plain-requires-19 : tie.Need-plain-requires-19
-plain-requires-19 c κs = search needs
 
 returns : tie.Need-returns
 returns c = rw (c .before .enum-told .given .1) (c .plain .ensures)
@@ -156,43 +162,43 @@ returns-8 : tie.Need-returns-8
 returns-8 c = rw (c .before .enum-told7 .given .1) (c .plain7 .ensures)
 
 returns-9 : tie.Need-returns-9
-returns-9 c = rw (c .before .enum-told8 .given .1) (c .plain8 .ensures)
+returns-9 c = rw (c .before .before .before .x2 .given .1, ← c .before .fault-code .ensures) (c .with-value2 .ensures)
 
 returns-10 : tie.Need-returns-10
-returns-10 c = rw (c .before .enum-told9 .given .1) (c .plain9 .ensures)
+returns-10 c = rw (c .before .enum-told8 .given .1) (c .plain8 .ensures)
 
 returns-11 : tie.Need-returns-11
-returns-11 c = rw (c .before .enum-told10 .given .1) (c .plain10 .ensures)
+returns-11 c = rw (c .before .enum-told9 .given .1) (c .plain9 .ensures)
 
 returns-12 : tie.Need-returns-12
-returns-12 c = rw (c .before .enum-told11 .given .1) (c .plain11 .ensures)
+returns-12 c = rw (c .before .enum-told10 .given .1) (c .plain10 .ensures)
 
 returns-13 : tie.Need-returns-13
-returns-13 c = rw (c .before .enum-told12 .given .1) (c .plain12 .ensures)
+returns-13 c = rw (c .before .enum-told11 .given .1) (c .plain11 .ensures)
 
 returns-14 : tie.Need-returns-14
-returns-14 c = rw (c .before .enum-told13 .given .1) (c .plain13 .ensures)
+returns-14 c = rw (c .before .enum-told12 .given .1) (c .plain12 .ensures)
 
 returns-15 : tie.Need-returns-15
-returns-15 c = rw (c .before .enum-told14 .given .1) (c .plain14 .ensures)
+returns-15 c = rw (c .before .enum-told13 .given .1) (c .plain13 .ensures)
 
 returns-16 : tie.Need-returns-16
-returns-16 c = rw (c .before .enum-told15 .given .1) (c .plain15 .ensures)
+returns-16 c = rw (c .before .enum-told14 .given .1) (c .plain14 .ensures)
 
 returns-17 : tie.Need-returns-17
-returns-17 c = rw (c .before .enum-told16 .given .1) (c .plain16 .ensures)
+returns-17 c = rw (c .before .enum-told15 .given .1) (c .plain15 .ensures)
 
 returns-18 : tie.Need-returns-18
-returns-18 c = rw (c .before .enum-told17 .given .1) (c .plain17 .ensures)
+returns-18 c = rw (c .before .enum-told16 .given .1) (c .plain16 .ensures)
 
 returns-19 : tie.Need-returns-19
-returns-19 c = rw (c .before .enum-told18 .given .1) (c .plain18 .ensures)
+returns-19 c = rw (c .before .enum-told17 .given .1) (c .plain17 .ensures)
 
 returns-20 : tie.Need-returns-20
-returns-20 c = rw (c .before .before .x2 .given .1) (c .with-value2 .ensures)
+returns-20 c = rw (c .before .before .before .x3 .given .1, ← c .before .fault-code2 .ensures) (c .with-two .ensures)
 
 returns-21 : tie.Need-returns-21
-returns-21 c = rw (c .before .enum-told19 .given .1) (c .plain19 .ensures)
+returns-21 c = rw (c .before .enum-told18 .given .1) (c .plain18 .ensures)
 
 pub refusal-code-spec : {M : Type 1} → statement M
 refusal-code-spec =
@@ -214,6 +220,9 @@ refusal-code-spec =
     with-value-requires
     enum-told-7
     plain-requires-7
+    enum-known-x-2
+    fault-code-requires
+    with-value-requires-2
     enum-told-8
     plain-requires-8
     enum-told-9
@@ -234,13 +243,12 @@ refusal-code-spec =
     plain-requires-16
     enum-told-17
     plain-requires-17
+    enum-known-x-3
+    cast-with-two
+    fault-code-requires-2
+    with-two-requires
     enum-told-18
     plain-requires-18
-    enum-known-x-2
-    cast-with-value
-    with-value-requires-2
-    enum-told-19
-    plain-requires-19
     returns
     returns-2
     returns-3

@@ -1,0 +1,124 @@
+//! The reasons that 29 and 9 came with on tapes, and whether their order mattered.
+
+use std::ops::Range;
+
+use super::counter::{Counter, Failure};
+use crate::player::completion::{is_better, is_of_file};
+use crate::player::types::{Reason, Refusal, SECTOR};
+use crate::player::zone::{Zone, CONVENTIONAL, SEQUENTIAL_PREFERRED, SEQUENTIAL_REQUIRED};
+
+/// The numbers of the reasons that 29 and 9 can have on a tape, and of those that have a next one.
+pub const OF_ZONES: Range<usize> = 1..8;
+pub const OF_RECORDS: Range<usize> = 2..10;
+pub const ZONE_PAIRS: Range<usize> = 1..7;
+pub const RECORD_PAIRS: Range<usize> = 2..9;
+const NUMBERS: usize = 10;
+
+/// Counts by a reason's number.
+#[derive(Clone, Copy, Debug, Default, PartialEq, Eq)]
+pub struct Counts {
+    pub given: [u64; NUMBERS],
+    /// Those with the fault of the next reason as well: a player that looks for that one first is wrong there.
+    pub before_next: [u64; NUMBERS],
+}
+
+impl Counts {
+    fn count(&mut self, reason: Reason, has_next: bool) {
+        let number = reason.number() as usize;
+        self.given[number] += 1;
+        self.before_next[number] += u64::from(has_next);
+    }
+
+    fn add(&mut self, other: &Counts) {
+        for number in 0..NUMBERS {
+            self.given[number] += other.given[number];
+            self.before_next[number] += other.before_next[number];
+        }
+    }
+}
+
+#[derive(Clone, Copy, Debug, Default, PartialEq, Eq)]
+pub struct Reasons {
+    /// Of 29.
+    pub zones: Counts,
+    /// Of 9.
+    pub records: Counts,
+    /// Reports answered 29 in which a zone behind the given one has a lower reason.
+    pub lower_behind: u64,
+}
+
+impl Counter for Reasons {
+    fn bad_zone(&mut self, block: u64, zones: &[Zone], number: usize, reason: Reason) {
+        self.zones.count(reason, has_next_fault(&zones[number], block, reason));
+        let mut behind = zones[number..].windows(2).filter_map(|pair| second_fault(pair, block));
+        self.lower_behind += u64::from(behind.any(|fault| fault < reason));
+    }
+
+    fn failure(&mut self, failure: &Failure) {
+        let Err(Refusal::RecordMismatch(reason)) = failure.answer else { return };
+        let zone = Zone::decode(failure.record, true);
+        let (kind, row) = (failure.held.kind, failure.row(failure.before));
+        let has_next = match reason {
+            Reason::Pointer => !is_of_file(&zone, kind, row),
+            Reason::OtherZone => is_better(&zone, kind, row),
+            _ => has_next_fault(&zone, failure.before.mount.block, reason),
+        };
+        self.records.count(reason, has_next);
+    }
+}
+
+impl Reasons {
+    pub fn add(&mut self, other: &Reasons) {
+        self.zones.add(&other.zones);
+        self.records.add(&other.records);
+        self.lower_behind += other.lower_behind;
+    }
+
+    /// What never came.
+    pub fn missing(&self) -> Vec<String> {
+        let answers = [(29, &self.zones, OF_ZONES, ZONE_PAIRS), (9, &self.records, OF_RECORDS, RECORD_PAIRS)];
+        let mut missing = Vec::new();
+        for (answer, counts, all, pairs) in answers {
+            for number in all.filter(|&number| counts.given[number] == 0) {
+                missing.push(format!("{answer} with reason {number}"));
+            }
+            for number in pairs.filter(|&number| counts.before_next[number] == 0) {
+                missing.push(format!("{answer} with reason {number} before {}", number + 1));
+            }
+        }
+        if self.lower_behind == 0 {
+            missing.push("29 before a lower reason of a later zone".to_string());
+        }
+        missing
+    }
+}
+
+/// The second zone's first reason, the first one being good or not.
+fn second_fault(pair: &[Zone], block: u64) -> Option<Reason> {
+    if pair[0].start.checked_add(pair[0].length) == Some(pair[1].start) {
+        pair[1].fault(block)
+    } else {
+        Some(Reason::Start)
+    }
+}
+
+/// Whether a zone with this reason, from the start to the condition, has the next field's fault too.
+fn has_next_fault(zone: &Zone, block: u64, reason: Reason) -> bool {
+    let step = block / SECTOR;
+    match reason {
+        Reason::Start => !zone.length_is_good(step),
+        Reason::Length => !zone.capacity_is_good(step),
+        Reason::Capacity => !zone.end_is_good(),
+        Reason::End => !zone.type_is_good(),
+        Reason::Type => !has_any_types_condition(zone),
+        // With a condition that is bad no pointer counts, so this is about players that look at it all the same.
+        Reason::Condition => !zone.is_conventional() && !zone.pointer_is_good(step),
+        _ => false,
+    }
+}
+
+/// Whether some type of zone has the condition. One that none has is bad whatever an unknown type is taken for.
+fn has_any_types_condition(zone: &Zone) -> bool {
+    let types = [CONVENTIONAL, SEQUENTIAL_REQUIRED, SEQUENTIAL_PREFERRED];
+    types.iter().any(|&kind| Zone { kind, ..*zone }.condition_is_good())
+}
