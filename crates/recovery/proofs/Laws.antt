@@ -4,7 +4,7 @@ use Prim.Native.Nat.{ℕ, _+_, _≤_}
 use native.Mathlib.Omega.{arith}
 use mathlib.Core.Path.{_≡_, refl, ap, _∙_, sym}
 use mathlib.Core.List.{[], _∷_}
-use mathlib.Core.Bool.{Bool, true, false, _&&_}
+use mathlib.Core.Bool.{true, false, _&&_}
 use borrow.Author.Tests.{le-leb, eq-eqb}
 use Rattle.types.specs.declared.Row.{Row}
 use Rattle.types.specs.declared.FileKind.{FileKind}
@@ -21,9 +21,9 @@ use Rattle.types.proofs.Tests.{both, and-left, and-right}
 use Rattle.zones.specs.declared.Zone.{Zone}
 use Rattle.zones.specs.Zone.{conventional, sequential, conditionOf, healthy, goodRecord}
 use Rattle.zones.specs.Faults.{firstFault, recordTests, recordFault, isFaultless}
-use Rattle.zones.specs.Facts.{allPassed, First, numbers}
+use Rattle.zones.specs.Facts.{allPassed, First, faultNumbers}
 use Rattle.zones.proofs.Laws.{record-bounded}
-use Rattle.zones.proofs.Faults.{passed-on, found-first, first-fault, both-passed, named, none-fails, record-passed}
+use Rattle.zones.proofs.Faults.{passed-on, found-first, first-fault, both-passed, named, none-fails, passedAfter, passed-after, record-passed}
 use Rattle.recovery.specs.declared.grid.SizeRule.the-variants.{Fixed}
 use Rattle.recovery.specs.declared.grid.AccessRule.{AccessRule}
 use Rattle.recovery.specs.declared.grid.AccessRule.the-variants as rule
@@ -33,12 +33,6 @@ use Rattle.recovery.specs.Recovery.{recoveryRule, ruledAccess}
 use Rattle.recovery.specs.Facts.{Fitting, Sizing}
 
 -- 9
-
-regrouped : (a b c : Bool) → a && (b && (c && true)) ≡ a && b && c
-regrouped true true true = refl
-regrouped true true false = refl
-regrouped true false c = refl
-regrouped false b c = refl
 
 module _ (block : ℕ) (r : Row) (z : Zone) where
   -- what fits a sequential file
@@ -60,17 +54,17 @@ module _ (block : ℕ) (r : Row) (z : Zone) where
       refl
 
   -- the order of its tests is that of the numbers
-  pub fit-numbers : (k : FileKind) → numbers (fitTests block k r z) ≡ 2 ∷ 3 ∷ 4 ∷ 5 ∷ 6 ∷ 7 ∷ 8 ∷ 9 ∷ []
-  unfolding numbers
+  pub fit-numbers : (k : FileKind) → faultNumbers (fitTests block k r z) ≡ 2 ∷ 3 ∷ 4 ∷ 5 ∷ 6 ∷ 7 ∷ 8 ∷ 9 ∷ []
+  unfolding faultNumbers
   fit-numbers k = refl
 
   -- what fits is what has no fault
   fit-passed : (k : FileKind) → allPassed (fitTests block k r z) ≡ recordFits block k r z
-  unfolding allPassed recordFits
+  unfolding recordFits passedAfter
   fit-passed k =
       both-passed (recordTests (blockSectors block) z) (fileTests k r z)
-      ∙ ap (λ g. g && (ofFile k r z && (noBetter k r z && true))) (record-passed (blockSectors block) z)
-      ∙ regrouped (goodRecord (blockSectors block) z) (ofFile k r z) (noBetter k r z)
+      ∙ ap (λ g. g && allPassed (fileTests k r z)) (record-passed (blockSectors block) z)
+      ∙ passed-after (goodRecord (blockSectors block) z) (fileTests k r z)
 
   pub misfit-faultless : (k : FileKind) → isFaultless (misfit block k r z) ≡ recordFits block k r z
   unfolding misfit named

@@ -9,13 +9,13 @@ use borrow.Author.Tests.{not-true}
 use Rattle.types.proofs.Tests.{and-left, and-right}
 use Rattle.types.specs.declared.ZoneFault.{ZoneFault}
 use Rattle.zones.specs.declared.Zone.{Zone}
-use Rattle.zones.specs.Zone.{startsAt, goodLength, goodCapacity, goodEnd, goodType, goodCondition, goodPointer, goodRecord, goodZone}
+use Rattle.zones.specs.Zone.{startsAt, goodRecord, goodZone}
 use Rattle.zones.specs.Faults.{ZoneTest, test, faultUnless, firstFault, recordTests, zoneTests, recordFault, zoneFault, isFaultless}
-use Rattle.zones.specs.Facts.{allPassed, First, numbers}
+use Rattle.zones.specs.Facts.{allPassed, First, faultNumbers}
 
 -- THE ORDER of a zone's tests is that of the numbers
-pub zone-numbers : (unit e : ℕ) (z : Zone) → numbers (zoneTests unit e z) ≡ 1 ∷ 2 ∷ 3 ∷ 4 ∷ 5 ∷ 6 ∷ 7 ∷ []
-unfolding numbers
+pub zone-numbers : (unit e : ℕ) (z : Zone) → faultNumbers (zoneTests unit e z) ≡ 1 ∷ 2 ∷ 3 ∷ 4 ∷ 5 ∷ 6 ∷ 7 ∷ []
+unfolding faultNumbers
 zone-numbers unit e z = refl
 
 -- THE FIRST
@@ -85,18 +85,24 @@ none-fails (t ∷ ts) h = by (t .passed) (none-fails ts (and-right (not (isFault
 
 -- GOOD INPUT is what has no fault
 
-regrouped : (a b c d e f : Bool) → a && (b && (c && (d && (e && (f && true))))) ≡ a && b && c && d && e && f
-regrouped true true true true true true = refl
-regrouped true true true true true false = refl
-regrouped true true true true false f = refl
-regrouped true true true false e f = refl
-regrouped true true false d e f = refl
-regrouped true false c d e f = refl
-regrouped false b c d e f = refl
+-- that all are passed, said as good input is: one test after the other is added to those before
+unfoldable pub passedAfter : Bool → List ZoneTest → Bool
+passedAfter b [] = b
+passedAfter b (t ∷ ts) = passedAfter (b && t .passed) ts
+
+pub passed-after : (b : Bool) (ts : List ZoneTest) → b && allPassed ts ≡ passedAfter b ts
+unfolding allPassed passedAfter
+passed-after true [] = refl
+passed-after false [] = refl
+passed-after b (t ∷ ts) = by b ∙ passed-after (b && t .passed) ts
+  where
+    by : (b : Bool) → b && (t .passed && allPassed ts) ≡ b && t .passed && allPassed ts
+    by true = refl
+    by false = refl
 
 pub record-passed : (unit : ℕ) (z : Zone) → allPassed (recordTests unit z) ≡ goodRecord unit z
-unfolding allPassed goodRecord
-record-passed unit z = regrouped (goodLength unit z) (goodCapacity unit z) (goodEnd z) (goodType z) (goodCondition z) (goodPointer unit z)
+unfolding allPassed goodRecord passedAfter
+record-passed unit z = passed-after true (recordTests unit z)
 
 pub record-faultless : (unit : ℕ) (z : Zone) → isFaultless (recordFault unit z) ≡ goodRecord unit z
 unfolding recordFault named

@@ -38,6 +38,6 @@ pub record First (x : ZoneFault) (ts : List ZoneTest) : Type 0 where
   pub passed : allPassed before ≡ true
 
 -- the numbers of the faults that these tests can find
-unfoldable pub numbers : List ZoneTest → List ℕ
-numbers [] = []
-numbers (t ∷ ts) = faultCode (t .fault) ∷ numbers ts
+unfoldable pub faultNumbers : List ZoneTest → List ℕ
+faultNumbers [] = []
+faultNumbers (t ∷ ts) = faultCode (t .fault) ∷ faultNumbers ts

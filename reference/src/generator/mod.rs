@@ -4,7 +4,7 @@
 mod broken;
 mod calls;
 pub mod failures;
-mod faults;
+pub mod faults;
 mod impossible;
 mod long;
 pub mod random;

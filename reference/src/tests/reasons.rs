@@ -1,6 +1,7 @@
 //! The reasons of 29 and 9: each alone, each before all that come after it, and how they are printed and counted.
 
 use super::*;
+use crate::generator::faults::REASONS;
 use crate::generator::records::{encode, head};
 use crate::player::play::play;
 use crate::player::tape::{CallRecord, Record, Verb};
@@ -103,19 +104,7 @@ impl Faults {
 
 #[test]
 fn numbers_of_reasons() {
-    let reasons = [
-        Reason::NoRecord,
-        Reason::Start,
-        Reason::Length,
-        Reason::Capacity,
-        Reason::End,
-        Reason::Type,
-        Reason::Condition,
-        Reason::Pointer,
-        Reason::OtherZone,
-        Reason::BetterCondition,
-    ];
-    for (number, reason) in (0..).zip(reasons) {
+    for (number, reason) in (0..).zip([Reason::NoRecord].into_iter().chain(REASONS)) {
         assert_eq!(reason.number(), number);
         assert_eq!(Refusal::RecordMismatch(reason).values(), [number]);
         assert_eq!(Refusal::BadZone { zone: 1022, reason }.values(), [1022, number]);
