@@ -79,7 +79,8 @@ enum {
   ZONEFS_BAD_OPTIONS = 27,        /* options */
   ZONEFS_BAD_REPORT = 28,         /* report header or length */
   ZONEFS_BAD_ZONE = 29,           /* bad zone; two values: the lowest number of one, and the reason */
-  ZONEFS_TOO_FEW_ROWS = 30        /* too few rows in the tables for the files of either kind */
+  ZONEFS_TOO_FEW_ROWS = 30,       /* too few rows in the tables for the files of either kind */
+  ZONEFS_SUPER_PERM = 33          /* perm in use (feature bit 3) and above 0777; checked after 25 and before 26 */
 };
 
 /*
@@ -223,9 +224,9 @@ enum { ZONEFS_CAPACITY_GIVEN = 1 };
  * commas, the last counts, and of none errors=remount-ro. The report is one piece from the first zone on, and its length is exactly
  * ZONEFS_HEADER_BYTES + ZONEFS_ZONE_BYTES for each zone that its header counts.
  * Writes the rows of the files to the front of both tables, and the mount words.
- * Returns 0, with two values, the numbers of cnv and of seq files; or 10 (mount or answer words too short), 20 to 30; 29 with two values, the
- * lowest number of a bad zone and its reason. Refused by 20 to 30, the tables are as they were, and the mount words are all 0, with which every
- * call answers 10 and every completion 8.
+ * Returns 0, with two values, the numbers of cnv and of seq files; or 10 (mount or answer words too short), 20 to 30, 33; 29 with two values,
+ * the lowest number of a bad zone and its reason. Refused by 20 to 30 or 33, the tables are as they were, and the mount words are all 0, with
+ * which every call answers 10 and every completion 8.
  */
 uint64_t zonefs_mount(uint64_t block, const uint8_t *superblock, size_t superblock_bytes, const uint8_t *options,
                       size_t options_bytes, const uint8_t *report, size_t report_bytes, uint64_t *cnv, size_t cnv_words,

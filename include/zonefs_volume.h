@@ -48,7 +48,7 @@ enum zonefs_volume_outcome {
  * fields: 0 is a zone's number too, and the reason of a record that is not 64 bytes long.
  */
 struct zonefs_volume_answer {
-  uint64_t number; /* 0, or the refusal's: ZONEFS_NO_FILE to ZONEFS_TOO_FEW_ROWS */
+  uint64_t number; /* 0, or the refusal's: ZONEFS_NO_FILE to ZONEFS_SUPER_PERM */
   enum zonefs_volume_outcome outcome;
 
   uint64_t count;       /* DONE: the bytes read or written */
@@ -94,6 +94,7 @@ static inline const char *zonefs_volume_refusal_text(uint64_t number) {
   case ZONEFS_BAD_REPORT: return "zone report with a bad header or another length";
   case ZONEFS_BAD_ZONE: return "bad zone in the report";
   case ZONEFS_TOO_FEW_ROWS: return "tables too short for the files";
+  case ZONEFS_SUPER_PERM: return "super block with a perm above 0777";
   default: return "no number of this library";
   }
 }
@@ -210,7 +211,7 @@ static inline void zonefs_volume_lend(struct zonefs_volume *volume, uint64_t *cn
   volume->seq_words = seq_words;
 }
 
-/* MOUNTED, or refused by 20 to 30, by 29 with zone and reason. The options are a C string, "" for none. */
+/* MOUNTED, or refused by 20 to 30 or 33, by 29 with zone and reason. The options are a C string, "" for none. */
 static inline struct zonefs_volume_answer zonefs_volume_mount(struct zonefs_volume *volume, uint64_t block,
                                                               const void *superblock, size_t superblock_bytes,
                                                               const char *options, const void *report, size_t report_bytes) {

@@ -30,7 +30,7 @@ static size_t cnv_words, seq_words;
 static struct zonefs_volume volume;
 
 static uint8_t super_block[4096], report[16 + 6 * 64], record[65];
-static unsigned compared, seen[31], at_once, commands[5], zone_reasons[10], record_reasons[10];
+static unsigned compared, seen[34], at_once, commands[5], zone_reasons[10], record_reasons[10];
 
 /* ---- the disk's bytes */
 
@@ -255,6 +255,23 @@ static void try_refused_mounts(void) {
   lend(CNV_WORDS, SEQ_WORDS);
 }
 
+/* perm as given, and the number and the mode that it leads to; a refused mount has the mode 0 */
+static void mount_with_perm(const char *what, unsigned features, uint32_t perm, uint64_t expected, uint64_t mode) {
+  super_block[88] = (uint8_t)features;
+  put(super_block + 104, perm, 4);
+  sign();
+  mount_as(what, "", expected);
+  need(mount_words[ZONEFS_MOUNT_MODE] == mode, what, "another mode than expected");
+}
+
+/* 33 begins right above 0777, and only where perm is in use; the top bit shows that all 32 are looked at */
+static void try_modes(void) {
+  mount_with_perm("lowest perm above 0777", 8, 01000, 33, 0);
+  mount_with_perm("perm's top bit", 8, 0x80000000u, 33, 0);
+  mount_with_perm("highest perm", 8, 0777, 0, 0777);
+  mount_with_perm("perm not in use", 0, 01000, 0, 0640);
+}
+
 /* A field of a zone, by its first byte and its bytes, with a value that makes the zone bad, and the reason that this has. */
 struct bad_field {
   const char *what;
@@ -378,9 +395,9 @@ static void try_failures(void) {
 static void check_numbers(void) {
   const char *none = zonefs_volume_refusal_text(11);
   unsigned i, j;
-  for (i = 0; i <= 30; i++) {
+  for (i = 0; i < sizeof(seen) / sizeof(seen[0]); i++) {
     const char *text = zonefs_volume_refusal_text(i);
-    int known = i <= 10 || i >= 20;
+    int known = i <= 10 || (i >= 20 && i <= 30) || i == 33;
     need((seen[i] > 0) == known, "numbers", "one of them was not seen");
     need((strcmp(text, none) != 0) == known, "texts", "a number has none");
     for (j = 0; known && j < i; j++)
@@ -419,6 +436,7 @@ int main(void) {
   lend(CNV_WORDS, SEQ_WORDS);
   try_unmounted();
   try_refused_mounts();
+  try_modes();
   try_bad_zones();
   try_calls();
   try_failures();

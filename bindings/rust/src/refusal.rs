@@ -95,6 +95,7 @@ refusals! {
         reason: Reason = Reason::from_code, ANSWER_ZONE_REASON;
     }, BAD_ZONE, "zone {zone} of the report is bad: {reason}";
     30 TooFewRows, TOO_FEW_ROWS, "a table has too few rows for the files";
+    33 SuperPerm, SUPER_PERM, "the super block's perm is in use and above 0o777";
 }
 
 impl core::error::Error for Refusal {}

@@ -104,7 +104,7 @@ fn refusals_have_the_papers_numbers_and_keep_their_values() {
     let answer = [2, 77, 6, 0, 0, 0, 0];
     let numbers: Vec<u64> =
         (0..=100).filter(|&number| Refusal::from_answer(number, &answer).is_some()).collect();
-    assert_eq!(numbers, [1, 2, 3, 4, 5, 6, 7, 8, 9, 10, 20, 21, 22, 23, 24, 25, 26, 27, 28, 29, 30]);
+    assert_eq!(numbers, [1, 2, 3, 4, 5, 6, 7, 8, 9, 10, 20, 21, 22, 23, 24, 25, 26, 27, 28, 29, 30, 33]);
     for number in numbers {
         assert_eq!(Refusal::from_answer(number, &answer).map(Refusal::number), Some(number));
     }
@@ -122,6 +122,7 @@ fn refusals_have_the_papers_numbers_and_keep_their_values() {
         Some(Refusal::BadRecord { reason: Reason::NoRecord })
     );
     assert_eq!(Refusal::from_answer(30, &[0; ANSWER_WORDS]), Some(Refusal::TooFewRows));
+    assert_eq!(Refusal::from_answer(33, &[0; ANSWER_WORDS]), Some(Refusal::SuperPerm));
 }
 
 #[test]

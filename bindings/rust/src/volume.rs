@@ -24,8 +24,8 @@ pub struct Volume<T> {
 }
 
 impl<T: AsRef<[RowWords]> + AsMut<[RowWords]>> Volume<T> {
-    /// Mounts. Writes a row for each file to the front of both tables. Refused, they are as they were; refusals are 20 to 30, 29 with
-    /// the lowest bad zone and what is bad of it.
+    /// Mounts. Writes a row for each file to the front of both tables. Refused, they are as they were; refusals are 20 to 30 and 33, 29
+    /// with the lowest bad zone and what is bad of it.
     pub fn mount(source: &Source<'_>, mut cnv: T, mut seq: T) -> Result<Volume<T>, Refusal> {
         let Source { block, super_block, options, report } = *source;
         let mut mount = [0; MOUNT_WORDS];

@@ -67,8 +67,8 @@ macro_rules! functions {
 
 functions! {
     /// Mounts: fills the front of both tables with a row for each file, and the mount words. Answers 0 with the numbers of
-    /// cnv and of seq files; or 10, 20 to 30, 29 with the lowest number of a bad zone and its reason. Refused by 20 to 30, the tables
-    /// are as they were and the mount words are all 0.
+    /// cnv and of seq files; or 10, 20 to 30, 33; 29 with the lowest number of a bad zone and its reason. Refused by 20 to 30 or 33, the
+    /// tables are as they were and the mount words are all 0.
     fn mount = zonefs_mount(
         block: u64,
         [superblock: &[u8]],

@@ -42,7 +42,7 @@ fileZones b = drop 1 (zonesOf b)
 abbrev pub tooFew : ℕ → ℕ → ℕ → ℕ → Bool
 tooFew cnvRoom seqRoom cnvs seqs = ltb cnvRoom cnvs || ltb seqRoom seqs
 
--- 20 to 27, with what was found of the super block
+-- 20 to 27, with what was found of the super block, where 02 puts 33
 unfoldable pub openingCheck : ℕ → Verdict → Options → Verdict
 openingCheck block found options =
     refuse (not (goodBlock block)) BadBlock (andThen found (refuse (badOptions options) BadOptions verdict.Passed))
@@ -53,7 +53,7 @@ filesCheck block aggregate b cnvRoom seqRoom =
     andThen (reportCheck (blockSectors block) b)
     (refuse (tooFew cnvRoom seqRoom (length (cnvRows aggregate (fileZones b))) (length (seqRows (fileZones b)))) TooFewRows verdict.Passed)
 
--- "Mount checks run 20 to 30."
+-- "Mount checks run 20 to 30.", and 33 of 02 among the super block's
 unfoldable pub mountCheck : ℕ → Verdict → Options → Bool → List ℕ → ℕ → ℕ → Verdict
 mountCheck block found options aggregate b cnvRoom seqRoom =
     andThen (openingCheck block found options) (filesCheck block aggregate b cnvRoom seqRoom)

@@ -1,4 +1,4 @@
-// A mount: the checks 20 to 30, and the rows of a report's files, written into two lent tables.
+// A mount: the checks 20 to 30 and 33, and the rows of a report's files, written into two lent tables.
 ghost use mathlib.Core.Path.{_≡_};
 ghost use mathlib.Core.Bool.{true, cond};
 ghost use Prim.Native.Nat.{ℕ, _+_, _≤_, _^_};

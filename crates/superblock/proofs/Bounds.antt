@@ -3,7 +3,7 @@
 use mathlib.Core.Path.{_≡_, refl}
 use mathlib.Core.List.{List, [], _∷_}
 use mathlib.Core.Bool.{Bool, true, false, cond}
-use Prim.Native.Nat.{ℕ, zero, suc, _+_, _%_, _^_, _<_}
+use Prim.Native.Nat.{ℕ, zero, suc, _+_, _^_, _<_}
 use native.Mathlib.Omega.{arith}
 use borrow.Author.Tests.{eqb-true, not-false}
 use lib.ListN.{length, getD, take, drop, replicate, length-drop}
@@ -49,7 +49,7 @@ module _ (b : List ℕ) (bytes : (k : ℕ) → getD b k 0 < 256) where
       record {
         owner = either-small (hasUid b) (uidAt b) 0 (le-below 4 b 96 bytes) (omega arith);
         group = either-small (hasGid b) (gidAt b) 0 (le-below 4 b 100 bytes) (omega arith);
-        mode = either-small (hasPerm b) (permAt b % 2 ^ 9) 0o640 (omega arith) (omega arith);
+        mode = either-small (hasPerm b) (permAt b) 0o640 (le-below 4 b 104 bytes) (omega arith);
         bytes = take-bytes 16 (drop 72 b) (λ k. omega (arith, getD-drop 72 b k 0, bytes (72 + k)));
         sixteen = length-take-le 16 (drop 72 b) (omega (arith, length-drop 72 b, length-told e));
       }

@@ -3,9 +3,9 @@ use Prim.Native.Nat.{ℕ, _-_, _/_, _%_, _^_}
 use mathlib.Core.Bool.{Bool, false, cond, not, _&&_, _||_}
 use mathlib.Core.List.{List, [], _∷_, _++_}
 use lib.ListN.{length, take, drop, replicate}
-use lib.Dec.{leb, eqb}
+use lib.Dec.{leb, ltb, eqb}
 use Rattle.types.specs.declared.Refusal.{Refusal}
-use Rattle.types.specs.declared.Refusal.the-variants.{SuperLength, SuperMagic, SuperChecksum, SuperFeatures, SuperOwner, SuperTail}
+use Rattle.types.specs.declared.Refusal.the-variants.{SuperLength, SuperMagic, SuperChecksum, SuperFeatures, SuperOwner, SuperPerm, SuperTail}
 use Rattle.types.specs.declared.Verdict.{Verdict}
 use Rattle.types.specs.declared.Verdict.the-variants.{Passed, Refused}
 use Rattle.types.specs.Verdicts.{refuse}
@@ -111,6 +111,10 @@ nobody used id = used && eqb id 0xFFFFFFFF
 abbrev pub noOwner : List ℕ → Bool
 noOwner b = nobody (hasUid b) (uidAt b) || nobody (hasGid b) (gidAt b)
 
+-- 02: "With feature bit 3, a perm above 0777 (octal)"
+abbrev pub wrongPerm : Bool → ℕ → Bool
+wrongPerm used perm = used && ltb 0o777 perm
+
 -- a byte isn't zero
 unfoldable pub nonzero : List ℕ → Bool
 nonzero [] = false
@@ -120,14 +124,16 @@ nonzero (x ∷ xs) = not (eqb x 0) || nonzero xs
 abbrev pub nonzeroTail : List ℕ → Bool
 nonzeroTail b = nonzero (tailAt b)
 
--- "magic, checksum", "features beyond bit 3; uid or gid in use and 0xFFFFFFFF; nonzero tail", in this order
+-- "magic, checksum", "features beyond bit 3; uid or gid in use and 0xFFFFFFFF; nonzero tail", in this order.
+-- 02: 33 is "checked after 25 and before 26"
 abbrev pub fieldsCheck : List ℕ → Verdict
 fieldsCheck b =
     refuse (wrongMagic b) SuperMagic
     (refuse (wrongChecksum b) SuperChecksum
     (refuse (unknownFeatures b) SuperFeatures
     (refuse (noOwner b) SuperOwner
-    (refuse (nonzeroTail b) SuperTail Passed))))
+    (refuse (wrongPerm (hasPerm b) (permAt b)) SuperPerm
+    (refuse (nonzeroTail b) SuperTail Passed)))))
 
 -- and "super block length" before them
 unfoldable pub superCheck : List ℕ → Verdict
@@ -139,9 +145,9 @@ superCheck b = refuse (wrongLength b) SuperLength (fieldsCheck b)
 abbrev pub idOf : Bool → ℕ → ℕ
 idOf used id = cond used id 0
 
--- "mode 0640". "With bit 3, the mode is perm's low nine bits"
+-- "mode 0640". With bit 3 the mode is perm itself: 02 "amends 01's low nine bits" by refusing a perm that has others
 abbrev pub modeOf : Bool → ℕ → ℕ
-modeOf used perm = cond used (perm % 2 ^ 9) 0o640
+modeOf used perm = cond used perm 0o640
 
 unfoldable pub fieldsOf : List ℕ → SuperBlock
 fieldsOf b =

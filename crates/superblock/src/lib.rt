@@ -2,7 +2,7 @@
 ghost use mathlib.Core.Path.{_≡_};
 ghost use Prim.Native.Nat.{_<_, _≤_};
 ghost use lib.ListN.{length, drop};
-ghost use Rattle.superblock.specs.SuperBlock.{featuresAt, uuidAt, tailPlace, bit, wrongMagic, wrongChecksum, unknownFeatures, noOwner, nonzero, idOf, modeOf, fieldsOf, fieldsCheck, refusedFor, readAs, superRead};
+ghost use Rattle.superblock.specs.SuperBlock.{featuresAt, permAt, uuidAt, tailPlace, bit, hasPerm, wrongMagic, wrongChecksum, unknownFeatures, noOwner, wrongPerm, nonzero, idOf, modeOf, fieldsOf, fieldsCheck, refusedFor, readAs, superRead};
 use types::Refusal;
 use types::Verdict;
 use types::answers::refuse;
@@ -44,8 +44,8 @@ const BEYOND_FEATURES: u64 = 16;
 // An id that is nobody's.
 const NOBODY: u32 = 0xFFFF_FFFF;
 
-// Above the low nine bits of perm, and the mode without it.
-const MODE_LIMIT: u32 = 0o1000;
+// The highest perm that is a mode, and the mode without one.
+const HIGHEST_MODE: u32 = 0o777;
 
 const DEFAULT_MODE: u32 = 0o640;
 
@@ -104,6 +104,14 @@ fn no_owner(b: &[u8]) -> bool
         | (has(b, HAS_GID) & (wire::u32_at(b, GID_AT) == NOBODY))
 }
 
+// A perm is in use and has bits beyond those of a mode.
+fn wrong_perm(b: &[u8]) -> bool
+    requires { ⌜ tailPlace ≤ length (now b) ⌝ }
+    ensures { λ r. ⌜ r ≡ wrongPerm (hasPerm (now (b .entry))) (permAt (now (b .entry))) ⌝ }
+{
+    has(b, HAS_PERM) & (wire::u32_at(b, PERM_AT) > HIGHEST_MODE)
+}
+
 // A byte from `from` on isn't zero.
 fn nonzero_from(b: &[u8], from: usize) -> bool
     ensures { λ r. ⌜ r ≡ nonzero (drop from (now (b .entry))) ⌝ }
@@ -127,11 +135,7 @@ fn id_of(used: bool, id: u32) -> u32
 fn mode_of(used: bool, perm: u32) -> u32
     ensures { λ r. ⌜ r ≡ modeOf used perm ⌝ }
 {
-    if used {
-        perm % MODE_LIMIT
-    } else {
-        DEFAULT_MODE
-    }
+    if used { perm } else { DEFAULT_MODE }
 }
 
 fn uuid_of(b: &[u8]) -> [u8; UUID_BYTES]
@@ -187,6 +191,7 @@ fn check_fields(b: &[u8]) -> Verdict
 {
     let rest = Verdict::Passed;
     let rest = refuse(nonzero_from(b, TAIL_AT), Refusal::SuperTail, rest);
+    let rest = refuse(wrong_perm(b), Refusal::SuperPerm, rest);
     let rest = refuse(no_owner(b), Refusal::SuperOwner, rest);
     let rest = refuse(unknown_features(b), Refusal::SuperFeatures, rest);
     let rest = refuse(wrong_checksum(b), Refusal::SuperChecksum, rest);
@@ -207,7 +212,7 @@ fn read_as(check: Verdict, b: &[u8]) -> SuperRead
     }
 }
 
-// The super block in `b`, checked in the order of the refusals' numbers.
+// The super block in `b`, checked in the order of the refusals' numbers, with 33 between 25 and 26.
 pub fn read_superblock(b: &[u8]) -> SuperRead
     ensures { λ r. ⌜ r ≡ superRead (now (b .entry)) ⌝ }
 {

@@ -1,8 +1,8 @@
--- The number and the values of each answer, as paper 01 gives them: "When the drawer says no", and 0 for what is not refused. 02 adds reasons.
+-- The number and the values of each answer, as paper 01 gives them: "When the drawer says no", and 0 for what is not refused. 02 adds reasons and 33.
 use Prim.Native.Nat.{ℕ}
 use mathlib.Core.List.{List, [], _∷_}
 use Rattle.types.specs.declared.Refusal.{Refusal}
-use Rattle.types.specs.declared.Refusal.the-variants.{NoFile, Busy, ReadOnlyMount, Denied, BeyondCapacity, Misplaced, Failed, NothingOutstanding, BadRecord, Impossible, BadBlock, SuperLength, SuperMagic, SuperChecksum, SuperFeatures, SuperOwner, SuperTail, BadOptions, BadReport, BadZone, TooFewRows}
+use Rattle.types.specs.declared.Refusal.the-variants.{NoFile, Busy, ReadOnlyMount, Denied, BeyondCapacity, Misplaced, Failed, NothingOutstanding, BadRecord, Impossible, BadBlock, SuperLength, SuperMagic, SuperChecksum, SuperFeatures, SuperOwner, SuperTail, BadOptions, BadReport, BadZone, TooFewRows, SuperPerm}
 use Rattle.types.specs.declared.RefusalCode.{RefusalCode}
 use Rattle.types.specs.declared.Values.{Values}
 use Rattle.types.specs.declared.Values.the-variants.{Nothing, One, Two}
@@ -70,6 +70,8 @@ refusalCode BadReport = plain 28
 refusalCode (BadZone zone fault) = withTwo 29 zone (faultCode fault)
 -- "too few rows for either kind"
 refusalCode TooFewRows = plain 30
+-- 02: "With feature bit 3, a perm above 0777 (octal) now refuses the mount with 33"
+refusalCode SuperPerm = plain 33
 
 -- the values as a list
 abbrev pub listed : Values → List ℕ

@@ -82,6 +82,7 @@ pub fn refusal_code(x: Refusal) -> RefusalCode
         Refusal::BadReport => plain(28),
         Refusal::BadZone(zone, fault) => with_two(29, zone as u64, fault_code(fault)),
         Refusal::TooFewRows => plain(30),
+        Refusal::SuperPerm => plain(33),
     }
 }
 

@@ -123,7 +123,7 @@ pub enum ZoneFault {
     BetterCondition,
 }
 
-// Why something was refused: the lines of paper 01's table, in its order.
+// Why something was refused: the lines of paper 01's table, in its order, and then those of paper 02.
 pub enum Refusal {
     NoFile,
     Busy,
@@ -149,6 +149,7 @@ pub enum Refusal {
     // The lowest number of a bad zone, and why it is bad.
     BadZone(u32, ZoneFault),
     TooFewRows,
+    SuperPerm,
 }
 
 // The values that a refusal tells beside its number.

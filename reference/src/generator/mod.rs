@@ -9,9 +9,9 @@ mod impossible;
 mod long;
 pub mod random;
 pub mod records;
-mod refused;
+pub mod refused;
 mod runs;
-mod shape;
+pub mod shape;
 pub mod truthful;
 
 pub use long::{long, MAX_PAD};

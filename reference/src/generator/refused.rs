@@ -4,7 +4,7 @@ use super::calls::any_call;
 use super::faults::{self, point_past_capacity, REASONS, SEQUENTIAL};
 use super::random::Random;
 use super::records::{encode, head};
-use super::shape::{self, put, stamp, Shape};
+use super::shape::{self, put, stamp, Shape, STRAY_PERMS};
 use crate::player::mount::Input;
 use crate::player::superblock;
 use crate::player::tape::Record;
@@ -15,7 +15,7 @@ use crate::player::zone::{self, Zone, HEADER};
 pub fn tape(random: &mut Random) -> Vec<u8> {
     let mut shape = shape::shape(random);
     // There are many ways for a zone to be bad, so they have a large share.
-    let bad_zones = random.percent(65);
+    let bad_zones = random.percent(62);
     if bad_zones {
         for _ in 0..random.pick(&[1, 1, 1, 2, 3]) {
             spoil_a_zone(random, &mut shape);
@@ -37,7 +37,8 @@ pub fn tape(random: &mut Random) -> Vec<u8> {
 }
 
 fn spoil(random: &mut Random, input: &mut Input) {
-    match random.weighted(&[10, 10, 10, 10, 10, 10, 30, 15]) {
+    // The perm's share is large, as other faults often come with it; the owner's is small, as it is one of these.
+    match random.weighted(&[10, 10, 10, 10, 6, 24, 14, 30, 15]) {
         0 => {
             input.block =
                 random.pick(&[0, 1, 2, 16, 511, 513, 1024, 2048, 4095, 4097, 8192, 0xFE00, u16::MAX])
@@ -46,16 +47,9 @@ fn spoil(random: &mut Random, input: &mut Input) {
         2 => spoil_checksum(random, &mut input.super_block),
         3 => spoil_features(random, &mut input.super_block),
         4 => spoil_owner(random, &mut input.super_block),
-        5 => {
-            let at = match random.below(3) {
-                0 => superblock::TAIL_AT,
-                1 => superblock::LENGTH - 1,
-                _ => random.between(superblock::TAIL_AT as u64, superblock::LENGTH as u64 - 1) as usize,
-            };
-            input.super_block[at] |= 1 << random.below(8);
-            stamp(&mut input.super_block);
-        }
-        6 => input.options = bad_options(random),
+        5 => spoil_perm_and_neighbours(random, &mut input.super_block),
+        6 => spoil_tail(random, &mut input.super_block),
+        7 => input.options = bad_options(random),
         _ => spoil_header(random, &mut input.report),
     }
 }
@@ -100,6 +94,37 @@ fn spoil_owner(random: &mut Random, bytes: &mut [u8]) {
     ]);
     bytes[superblock::FEATURES_AT] |= bit as u8;
     put(bytes, at, &[0xFF; 4]);
+    stamp(bytes);
+}
+
+/// The faults that are looked for just before and just after the perm's often come with it, so that the order shows.
+fn spoil_perm_and_neighbours(random: &mut Random, bytes: &mut [u8]) {
+    spoil_perm(random, bytes);
+    if random.percent(30) {
+        spoil_owner(random, bytes);
+    }
+    if random.percent(40) {
+        spoil_tail(random, bytes);
+    }
+}
+
+fn spoil_perm(random: &mut Random, bytes: &mut [u8]) {
+    let any = 1 << random.between(9, 31) | random.below(0o1000) as u32;
+    let chosen = random.pick(&STRAY_PERMS);
+    // The lowest, which a check that is off by one would take, is the commonest.
+    let perm = random.pick(&[0o1000, any, any, chosen, chosen]);
+    bytes[superblock::FEATURES_AT] |= superblock::HAS_PERM as u8;
+    put(bytes, superblock::PERM_AT, &perm.to_le_bytes());
+    stamp(bytes);
+}
+
+fn spoil_tail(random: &mut Random, bytes: &mut [u8]) {
+    let at = match random.below(3) {
+        0 => superblock::TAIL_AT,
+        1 => superblock::LENGTH - 1,
+        _ => random.between(superblock::TAIL_AT as u64, superblock::LENGTH as u64 - 1) as usize,
+    };
+    bytes[at] |= 1 << random.below(8);
     stamp(bytes);
 }
 

@@ -6,6 +6,11 @@ use crate::player::types::{DISK_LIMIT, SECTOR};
 use crate::player::zone::{Zone, HEADER, RECORD};
 use crate::player::{superblock, zone};
 
+/// Perms that are good in use; the last is the highest.
+const MODES: [u32; 3] = [0, 0o640, 0o777];
+/// Perms that aren't: with the lowest of the stray bits, with a few of them, with one further up, with all.
+pub const STRAY_PERMS: [u32; 7] = [0o1000, 0o1777, 0o7777, 1 << 16, 1 << 31, 1 << 31 | 0o640, u32::MAX];
+
 /// The values of a good mount before they become bytes, so that a fault can be put into one of them.
 pub struct Shape {
     pub block: u16,
@@ -179,7 +184,11 @@ pub fn super_block(random: &mut Random, features: u64) -> Vec<u8> {
         let id = if used { random.pick(&[0, 1000, u32::MAX - 1]) } else { random.pick(&[0, 7, u32::MAX]) };
         put(&mut bytes, at, &id.to_le_bytes());
     }
-    let perm: u32 = random.pick(&[0, 0o640, 0o777, 0o7777, u32::MAX]);
+    let perm = if features & superblock::HAS_PERM != 0 {
+        random.pick(&MODES)
+    } else {
+        random.pick(&[&MODES[..], &STRAY_PERMS].concat())
+    };
     put(&mut bytes, superblock::PERM_AT, &perm.to_le_bytes());
     stamp(&mut bytes);
     bytes

@@ -1,4 +1,4 @@
-//! Mounting: checks 20 to 30, and the rows that the zones give.
+//! Mounting: checks 20 to 30, with 33 between 25 and 26, and the rows that the zones give.
 
 use super::types::{Access, Condition, Mount, Refusal, Row, SECTOR};
 use super::zone::Zone;

@@ -20,6 +20,8 @@ pub const HAS_PERM: u64 = 8;
 const ALL_FEATURES: u64 = AGGREGATE | HAS_OWNER | HAS_GROUP | HAS_PERM;
 
 const DEFAULT_MODE: u32 = 0o640;
+/// A perm in use is the mode, and has no bits beyond these nine.
+pub const HIGHEST_MODE: u32 = 0o777;
 const NO_ID: u32 = u32::MAX;
 
 #[derive(Clone, Copy, Debug, PartialEq, Eq)]
@@ -38,7 +40,12 @@ pub fn checksum_of(bytes: &[u8]) -> u32 {
     update(field, &bytes[CHECKSUM_AT + 4..])
 }
 
-/// Checks 21 to 26, in order.
+pub fn tail_is_zero(bytes: &[u8]) -> bool {
+    bytes[TAIL_AT..].iter().all(|&byte| byte == 0)
+}
+
+/// Checks 21 to 25, 33 and 26, in this order: "With feature bit 3, a perm above 0777 (octal) now refuses the mount
+/// with 33, checked after 25 and before 26." (K8)
 pub fn decode(bytes: &[u8]) -> Result<SuperBlock, Refusal> {
     if bytes.len() != LENGTH {
         return Err(Refusal::SuperBlockLength);
@@ -59,10 +66,13 @@ pub fn decode(bytes: &[u8]) -> Result<SuperBlock, Refusal> {
     if owner == NO_ID || group == NO_ID {
         return Err(Refusal::Owner);
     }
-    if bytes[TAIL_AT..].iter().any(|&byte| byte != 0) {
+    let mode = if features & HAS_PERM != 0 { u32_at(bytes, PERM_AT) } else { DEFAULT_MODE };
+    if mode > HIGHEST_MODE {
+        return Err(Refusal::Perm);
+    }
+    if !tail_is_zero(bytes) {
         return Err(Refusal::Tail);
     }
-    let mode = if features & HAS_PERM != 0 { u32_at(bytes, PERM_AT) & 0o777 } else { DEFAULT_MODE };
     let mut uuid = [0; 16];
     uuid.copy_from_slice(&bytes[UUID_AT..UUID_AT + 16]);
     Ok(SuperBlock { aggregate: features & AGGREGATE != 0, owner, group, mode, uuid })

@@ -153,6 +153,7 @@ impl Reason {
     }
 }
 
+/// Those of a mount stand in the order of its checks.
 #[derive(Clone, Copy, Debug, PartialEq, Eq)]
 pub enum Refusal {
     NoSuchFile,
@@ -170,6 +171,7 @@ pub enum Refusal {
     Checksum,
     Features,
     Owner,
+    Perm,
     Tail,
     Options,
     ReportHeader,
@@ -195,6 +197,7 @@ impl Refusal {
             Refusal::Checksum => 23,
             Refusal::Features => 24,
             Refusal::Owner => 25,
+            Refusal::Perm => 33,
             Refusal::Tail => 26,
             Refusal::Options => 27,
             Refusal::ReportHeader => 28,

@@ -3,6 +3,7 @@
 pub mod compare;
 pub mod counter;
 pub mod describe;
+pub mod perms;
 pub mod pointers;
 pub mod reasons;
 pub mod sums;

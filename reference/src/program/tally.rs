@@ -1,9 +1,10 @@
-//! What a comparison has reached: answers by mark, pointers, reasons, and the consistency check's own numbers.
+//! What a comparison has reached: answers by mark, perms, pointers, reasons, and the consistency check's own numbers.
 
 use std::collections::BTreeMap;
 
 use super::counter::Counter;
-use super::pointers::{Pointers, CASE_NAMES};
+use super::perms::{self, Perms};
+use super::pointers::{self, Pointers};
 use super::reasons::{Reasons, OF_RECORDS, OF_ZONES, RECORD_PAIRS, ZONE_PAIRS};
 use crate::disk::consistency::Compared;
 use crate::disk::truth::FREEDOM_NAMES;
@@ -11,7 +12,7 @@ use crate::disk::truth::FREEDOM_NAMES;
 /// Every answer that a tape can show. It can't show 10 and 30 (its tables and mount are always possible
 /// and long enough), nor 21 (its super block always has its length).
 const EXPECTED: [(&str, &[&str]); 8] = [
-    ("MO", &["0", "20", "22", "23", "24", "25", "26", "27", "28", "29"]),
+    ("MO", &["0", "20", "22", "23", "24", "25", "26", "27", "28", "29", "33"]),
     ("RD", &["R", "D", "1", "2", "4", "5"]),
     ("WR", &["W", "D", "1", "2", "3", "4", "5", "6"]),
     ("TR", &["Z", "F", "D", "1", "2", "3", "4"]),
@@ -28,6 +29,8 @@ pub struct Tally {
     /// Tapes on which the player ended with another exit status than 0; the papers ask nothing of it.
     pub exits: u64,
     answers: BTreeMap<(String, String), u64>,
+    /// Perms on the tapes, by what came of them.
+    pub perms: Perms,
     /// Pointers on the tapes, by what came of them.
     pub pointers: Pointers,
     /// What 29 and 9 said was bad.
@@ -50,6 +53,7 @@ impl Tally {
 
     /// Counts what isn't in the lines.
     pub fn count_tape(&mut self, tape: &[u8]) {
+        self.perms.count_tape(tape);
         self.pointers.count_tape(tape);
         self.reasons.count_tape(tape);
     }
@@ -59,6 +63,7 @@ impl Tally {
         self.lines += other.lines;
         self.exits += other.exits;
         self.compared.add(&other.compared);
+        self.perms.add(&other.perms);
         self.pointers.add(&other.pointers);
         self.reasons.add(&other.reasons);
         for (key, count) in &other.answers {
@@ -76,7 +81,9 @@ impl Tally {
                 missing.push(format!("{mark} {answer}"));
             }
         }
-        for (name, _) in CASE_NAMES.iter().zip(self.pointers.counts).filter(|(_, count)| *count == 0) {
+        let perms = perms::CASE_NAMES.iter().zip(self.perms.counts);
+        let pointers = pointers::CASE_NAMES.iter().zip(self.pointers.counts);
+        for (name, _) in perms.chain(pointers).filter(|(_, count)| *count == 0) {
             missing.push(name.to_string());
         }
         missing.extend(self.reasons.missing());
@@ -141,9 +148,10 @@ impl Tally {
         let Compared { states, rows, exceptions, failures, records, reports, impossible } = self.compared;
         let (exceptions, records, reports) =
             (counts_text(&exceptions), counts_text(&records), counts_text(&reports));
-        let (pointers, reasons) = (counts_text(&self.pointers.counts), self.reasons_text());
+        let (perms, pointers) = (counts_text(&self.perms.counts), counts_text(&self.pointers.counts));
+        let reasons = self.reasons_text();
         format!(
-            "{} tapes, {} lines alike ({answers}), nonzero exits {}; fresh mounts {states}, rows {rows}, exceptions {exceptions}, failures {failures}, other bytes in records {records} and in reports {reports}, copies answered 10 {impossible}, pointers {pointers}, {reasons}",
+            "{} tapes, {} lines alike ({answers}), nonzero exits {}; fresh mounts {states}, rows {rows}, exceptions {exceptions}, failures {failures}, other bytes in records {records} and in reports {reports}, copies answered 10 {impossible}, perms {perms}, pointers {pointers}, {reasons}",
             self.tapes, self.lines, self.exits
         )
     }

@@ -1,15 +1,17 @@
 //! The generator: the same tapes for the same seed, other ones for another, and a check that holds.
 
-use std::collections::BTreeSet;
+use std::collections::{BTreeMap, BTreeSet};
 use std::sync::OnceLock;
 
+use super::stamp;
 use crate::generator::random::Random;
-use crate::generator::{generate, long, Generated, MAX_PAD};
+use crate::generator::{generate, long, refused, shape, Generated, MAX_PAD};
 use crate::player::play::play;
 use crate::player::tape::{Next, Reader, Record, Verb};
-use crate::player::types::{FileKind, Reason, Refusal};
+use crate::player::types::{u32_at, FileKind, Reason, Refusal};
 use crate::player::zone::Zone;
 use crate::program::counter::{Counter, Failure};
+use crate::program::perms::Perms;
 use crate::program::pointers::CASE_NAMES;
 use crate::program::reasons::Reasons;
 use crate::program::tally::Tally;
@@ -73,6 +75,81 @@ fn the_check_holds_and_sees_much() {
     assert!(tally.compared.reports.iter().all(|&count| count > 0), "{}", tally.summary());
     assert!(tally.compared.impossible > 0, "{}", tally.summary());
     assert!(tally.missing().len() < 5, "{:?}", tally.missing());
+}
+
+/// Perms that no mode can be come with the faults that are checked before and after them, and without their bit.
+#[test]
+fn the_tapes_have_every_perm() {
+    let mut perms = Perms::default();
+    tapes().iter().for_each(|generated| perms.count_tape(&generated.bytes));
+    assert!(perms.counts.iter().all(|&count| count > 0), "{:?}", perms.counts);
+}
+
+/// So that no mount that is meant to be good is lost to its perm.
+#[test]
+fn good_super_blocks_have_stray_perms_only_without_their_bit() {
+    for features in 0..16 {
+        let perms: BTreeSet<u32> = (0..200)
+            .map(|index| u32_at(&shape::super_block(&mut Random::new(features, index), features), 104))
+            .collect();
+        assert!(perms.contains(&0o777), "features {features}");
+        let edges = [0o1000, 0o1777, 0o7777, 0x8000_0000, 0x8000_01A0, u32::MAX];
+        if features & 8 == 0 {
+            assert!(edges.iter().all(|perm| perms.contains(perm)), "features {features}: {perms:?}");
+        } else {
+            assert!(perms.iter().all(|&perm| perm <= 0o777), "features {features}: {perms:?}");
+        }
+    }
+}
+
+/// The super block's faults 25, 33 and 26, read off its bytes.
+fn faults_around_33(super_block: &[u8]) -> Vec<&'static str> {
+    let (features, ones) = (super_block[88], |at: usize| super_block[at..at + 4] == [0xFF; 4]);
+    let bad_id = (features & 2 != 0 && ones(96)) || (features & 4 != 0 && ones(100));
+    let stray_perm = features & 8 != 0 && u32_at(super_block, 104) > 0o777;
+    let bad_tail = super_block[108..].iter().any(|&byte| byte != 0);
+    let faults = [("25", bad_id), ("33", stray_perm), ("26", bad_tail)];
+    faults.into_iter().filter(|(_, is_there)| *is_there).map(|(number, _)| number).collect()
+}
+
+fn mount_answer(tape: &[u8]) -> String {
+    play(tape)[0].text.split(' ').nth(1).unwrap().to_string()
+}
+
+/// What the mount is answered with the perm 0777 instead.
+fn answer_without_33(tape: &[u8]) -> String {
+    let mut tape = tape.to_vec();
+    let super_block = &mut tape[6..6 + 4096];
+    super_block[104..108].copy_from_slice(&[0xFF, 1, 0, 0]);
+    stamp(super_block);
+    mount_answer(&tape)
+}
+
+/// 33 comes alone, before each number that is checked after it, and after 25. Its perms are at every edge and have each
+/// of the stray bits.
+#[test]
+fn refused_mounts_have_33_alone_and_with_others() {
+    let (mut sets, mut perms, mut next) = (BTreeMap::new(), BTreeSet::new(), BTreeSet::new());
+    for index in 0..5000 {
+        let tape = refused::tape(&mut Random::new(1, index));
+        let (answer, super_block) = (mount_answer(&tape), &tape[6..6 + 4096]);
+        let faults = faults_around_33(super_block);
+        let checked_before = ["20", "22", "23", "24"].contains(&answer.as_str());
+        if checked_before || faults.is_empty() {
+            continue;
+        }
+        assert_eq!(answer, faults[0], "{faults:?}");
+        if answer == "33" {
+            perms.insert(u32_at(super_block, 104));
+            next.insert(answer_without_33(&tape));
+        }
+        *sets.entry(faults).or_insert(0) += 1;
+    }
+    let with_33: [&[&str]; 4] = [&["33"], &["25", "33"], &["33", "26"], &["25", "33", "26"]];
+    assert!(with_33.iter().all(|&set| sets.get(set).is_some_and(|&count| count >= 50)), "{sets:?}");
+    assert_eq!(next, BTreeSet::from(["0", "26", "27", "28", "29"].map(String::from)));
+    assert!([0o1000, 0o1777, 0o7777, 1 << 31, u32::MAX].iter().all(|perm| perms.contains(perm)), "{perms:?}");
+    assert_eq!(BTreeSet::from_iter(perms.iter().map(|perm| perm.ilog2())), BTreeSet::from_iter(9..32));
 }
 
 /// Full zones with any pointer, and pointers that the capacity bounds, come with all that can come of them.

@@ -7,6 +7,7 @@ mod completion;
 mod consistency;
 mod generator;
 mod mount;
+mod perms;
 mod pointers;
 mod reasons;
 mod sheet;

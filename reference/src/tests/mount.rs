@@ -35,6 +35,7 @@ fn block_and_super_block() {
     assert_eq!(changed_super_block(88, &[2, 0, 0, 0, 0, 0, 0, 0, 0xFF, 0xFF, 0xFF, 0xFF]), 25);
     assert_eq!(changed_super_block(88, &[4, 0, 0, 0, 0, 0, 0, 0, 0, 0, 0, 0, 0xFF, 0xFF, 0xFF, 0xFF]), 25);
     assert_eq!(changed_super_block(96, &[0xFF; 12]), 0);
+    assert_eq!(changed_super_block(88, &[8, 0, 0, 0, 0, 0, 0, 0, 0, 0, 0, 0, 0, 0, 0, 0, 0, 2]), 33);
     assert_eq!(changed_super_block(108, &[1]), 26);
     assert_eq!(changed_super_block(4095, &[1]), 26);
 }
@@ -43,18 +44,21 @@ fn block_and_super_block() {
 fn owner_group_mode_uuid() {
     let mut input = sheet_input();
     input.super_block[72..88].copy_from_slice(b"0123456789abcdef");
-    input.super_block[96..108].copy_from_slice(&[7, 0, 0, 0, 9, 0, 0, 0, 0xFF, 0xFF, 0, 0]);
-    let mut shown = |features: u8| {
+    input.super_block[96..104].copy_from_slice(&[7, 0, 0, 0, 9, 0, 0, 0]);
+    let mut shown = |features: u8, perm: u32| {
         input.super_block[88] = features;
+        input.super_block[104..108].copy_from_slice(&perm.to_le_bytes());
         stamp(&mut input.super_block);
-        let mount = mount_volume(&input).unwrap().mount;
+        let mount = mount_volume(&input)?.mount;
         assert_eq!(&mount.uuid, b"0123456789abcdef");
-        (mount.owner, mount.group, mount.mode)
+        Ok((mount.owner, mount.group, mount.mode))
     };
-    assert_eq!(shown(0), (0, 0, 0o640));
-    assert_eq!(shown(2), (7, 0, 0o640));
-    assert_eq!(shown(4), (0, 9, 0o640));
-    assert_eq!(shown(8), (0, 0, 0o777));
+    assert_eq!(shown(0, 0xFFFF), Ok((0, 0, 0o640)));
+    assert_eq!(shown(2, 0xFFFF), Ok((7, 0, 0o640)));
+    assert_eq!(shown(4, 0xFFFF), Ok((0, 9, 0o640)));
+    assert_eq!(shown(8, 0xFFFF), Err(Refusal::Perm));
+    assert_eq!(shown(8, 0o777), Ok((0, 0, 0o777)));
+    assert_eq!(shown(15, 0o751), Ok((7, 9, 0o751)));
 }
 
 #[test]
@@ -292,7 +296,8 @@ fn tables_too_short_and_rows_past_the_files() {
     }
 }
 
-/// With two faults the lower number is given.
+/// With two faults the lower number is given, but for 33, which is checked after 25 and before 26. `perms` has every
+/// set of faults.
 #[test]
 fn order_of_checks() {
     assert_eq!(changed(|input| (input.block, input.super_block[0]) = (0, 0)), 20);
@@ -303,6 +308,17 @@ fn order_of_checks() {
         changed_super_block(88, &[2, 0, 0, 0, 0, 0, 0, 0, 0xFF, 0xFF, 0xFF, 0xFF, 0, 0, 0, 0, 0, 0, 0, 0, 1]),
         25
     );
+    // The features, uid, gid, perm and the first four bytes of the tail.
+    let fields = |features: u64, others: [u32; 4]| {
+        let others = others.iter().flat_map(|field| field.to_le_bytes());
+        changed_super_block(88, &features.to_le_bytes().into_iter().chain(others).collect::<Vec<u8>>())
+    };
+    assert_eq!(fields(0x18, [0, 0, 0o1000, 0]), 24);
+    assert_eq!(fields(0x0A, [u32::MAX, 0, 0o1000, 0]), 25);
+    assert_eq!(fields(0x0C, [0, u32::MAX, 0o1000, 1]), 25);
+    assert_eq!(fields(0x08, [u32::MAX, u32::MAX, 0o1000, 1]), 33);
+    assert_eq!(fields(0x08, [u32::MAX, u32::MAX, 0o777, 1]), 26);
+    assert_eq!(fields(0x07, [0, 0, 0o1000, 1]), 26);
     assert_eq!(changed(|input| (input.options, input.report[0]) = (b"x".to_vec(), 1)), 27);
     assert_eq!(changed(|input| (input.report[0], input.report[16]) = (1, 1)), 28);
 }

@@ -137,6 +137,12 @@ enum-told-18 c = search needs
 plain-requires-18 : tie.Need-plain-requires-18
 plain-requires-18 c κs = search needs
 
+enum-told-19 : tie.Need-enum-told-19
+enum-told-19 c = search needs
+
+plain-requires-19 : tie.Need-plain-requires-19
+plain-requires-19 c κs = search needs
+
 returns : tie.Need-returns
 returns c = rw (c .before .enum-told .given .1) (c .plain .ensures)
 
@@ -200,6 +206,9 @@ returns-20 c = rw (c .before .before .before .x3 .given .1, ← c .before .fault
 returns-21 : tie.Need-returns-21
 returns-21 c = rw (c .before .enum-told18 .given .1) (c .plain18 .ensures)
 
+returns-22 : tie.Need-returns-22
+returns-22 c = rw (c .before .enum-told19 .given .1) (c .plain19 .ensures)
+
 pub refusal-code-spec : {M : Type 1} → statement M
 refusal-code-spec =
     tie.close
@@ -249,6 +258,8 @@ refusal-code-spec =
     with-two-requires
     enum-told-18
     plain-requires-18
+    enum-told-19
+    plain-requires-19
     returns
     returns-2
     returns-3
@@ -269,4 +280,5 @@ refusal-code-spec =
     returns-18
     returns-19
     returns-20
-    returns-21)
+    returns-21
+    returns-22)
