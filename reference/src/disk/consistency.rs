@@ -51,7 +51,8 @@ impl Compared {
     }
 }
 
-fn add_each(sums: &mut [u64], counts: &[u64]) {
+/// Adds each count to the sum at its place.
+pub fn add_each(sums: &mut [u64], counts: &[u64]) {
     for (sum, count) in sums.iter_mut().zip(counts) {
         *sum += count;
     }

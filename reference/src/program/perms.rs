@@ -1,6 +1,7 @@
 //! Perms that a player may fall for, and what came of them on a tape: those above the highest mode, in use or not, and
 //! the highest mode itself.
 
+use crate::disk::consistency::add_each;
 use crate::player::play::{mount_volume, read_input};
 use crate::player::superblock::{tail_is_zero, FEATURES_AT, HAS_PERM, HIGHEST_MODE, PERM_AT};
 use crate::player::tape::Reader;
@@ -39,8 +40,6 @@ impl Perms {
     }
 
     pub fn add(&mut self, other: &Perms) {
-        for (sum, count) in self.counts.iter_mut().zip(other.counts) {
-            *sum += count;
-        }
+        add_each(&mut self.counts, &other.counts);
     }
 }

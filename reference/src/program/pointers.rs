@@ -2,6 +2,7 @@
 //! those that the capacity bounds, which aren't.
 
 use super::counter::{Counter, Failure};
+use crate::disk::consistency::add_each;
 use crate::player::tape::CallRecord;
 use crate::player::types::{Operation, Policy, Reason, Row, SECTOR};
 use crate::player::zone::{Zone, FULL};
@@ -79,9 +80,7 @@ impl Counter for Pointers {
 
 impl Pointers {
     pub fn add(&mut self, other: &Pointers) {
-        for (sum, count) in self.counts.iter_mut().zip(other.counts) {
-            *sum += count;
-        }
+        add_each(&mut self.counts, &other.counts);
     }
 
     fn count(&mut self, case: Case, came: bool) {

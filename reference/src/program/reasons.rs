@@ -3,6 +3,7 @@
 use std::ops::Range;
 
 use super::counter::{Counter, Failure};
+use crate::disk::consistency::add_each;
 use crate::player::completion::{is_better, is_of_file};
 use crate::player::types::{Reason, Refusal, SECTOR};
 use crate::player::zone::{Zone, CONVENTIONAL, SEQUENTIAL_PREFERRED, SEQUENTIAL_REQUIRED};
@@ -30,10 +31,8 @@ impl Counts {
     }
 
     fn add(&mut self, other: &Counts) {
-        for number in 0..NUMBERS {
-            self.given[number] += other.given[number];
-            self.before_next[number] += other.before_next[number];
-        }
+        add_each(&mut self.given, &other.given);
+        add_each(&mut self.before_next, &other.before_next);
     }
 }
 
