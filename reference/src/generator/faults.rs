@@ -23,9 +23,10 @@ const UNKNOWN_TYPES: [u8; 6] = [0, 4, 5, 18, 128, 255];
 /// Conditions that no type of zone has.
 const UNKNOWN_CONDITIONS: [u8; 6] = [5, 7, 12, 16, 130, 255];
 
-/// Any of these reasons: alone, with the next one, or with some of those that come after it.
-pub fn choose(random: &mut Random, reasons: &[Reason]) -> Vec<Reason> {
-    let mut rest = reasons[random.below(reasons.len() as u64) as usize..].iter().copied();
+/// Any of these faults, which stand in the order of their checks: alone, with the next one, or with some of those that
+/// come after it.
+pub fn choose<T: Copy>(random: &mut Random, faults: &[T]) -> Vec<T> {
+    let mut rest = faults[random.below(faults.len() as u64) as usize..].iter().copied();
     let first = rest.next();
     match random.weighted(&[10, 70, 20]) {
         0 => first.into_iter().collect(),

@@ -1,10 +1,11 @@
 //! Seeded tapes. Each is one of four sorts: a run against the model disk, a run with any completions, a
-//! refused mount, a broken tape.
+//! refused mount, a broken tape. And seeded cases for the formatter, which is on no tape.
 
 mod broken;
 mod calls;
 pub mod failures;
 pub mod faults;
+pub mod format;
 mod impossible;
 mod long;
 pub mod random;

@@ -4,11 +4,11 @@ use super::calls::any_call;
 use super::faults::{self, point_past_capacity, REASONS, SEQUENTIAL};
 use super::random::Random;
 use super::records::{encode, head};
-use super::shape::{self, put, stamp, Shape, STRAY_PERMS};
+use super::shape::{self, Shape, STRAY_PERMS};
 use crate::player::mount::Input;
-use crate::player::superblock;
+use crate::player::superblock::{self, stamp};
 use crate::player::tape::Record;
-use crate::player::types::{Reason, DISK_LIMIT, SECTOR};
+use crate::player::types::{put, Reason, DISK_LIMIT, SECTOR};
 use crate::player::zone::{self, Zone, HEADER};
 
 /// A tape with a refused mount. What follows the mount must not be looked at.
@@ -36,13 +36,12 @@ pub fn tape(random: &mut Random) -> Vec<u8> {
     tape
 }
 
+pub const BAD_BLOCKS: [u16; 13] = [0, 1, 2, 16, 511, 513, 1024, 2048, 4095, 4097, 8192, 0xFE00, u16::MAX];
+
 fn spoil(random: &mut Random, input: &mut Input) {
     // The perm's share is large, as other faults often come with it; the owner's is small, as it is one of these.
     match random.weighted(&[10, 10, 10, 10, 6, 24, 14, 30, 15]) {
-        0 => {
-            input.block =
-                random.pick(&[0, 1, 2, 16, 511, 513, 1024, 2048, 4095, 4097, 8192, 0xFE00, u16::MAX])
-        }
+        0 => input.block = random.pick(&BAD_BLOCKS),
         1 => spoil_magic(random, &mut input.super_block),
         2 => spoil_checksum(random, &mut input.super_block),
         3 => spoil_features(random, &mut input.super_block),
@@ -54,7 +53,7 @@ fn spoil(random: &mut Random, input: &mut Input) {
     }
 }
 
-fn spoil_magic(random: &mut Random, bytes: &mut [u8]) {
+pub fn spoil_magic(random: &mut Random, bytes: &mut [u8]) {
     match random.below(3) {
         0 => bytes[..4].reverse(),
         1 => bytes[..4].fill(0),
@@ -63,7 +62,7 @@ fn spoil_magic(random: &mut Random, bytes: &mut [u8]) {
     stamp(bytes);
 }
 
-fn spoil_checksum(random: &mut Random, bytes: &mut [u8]) {
+pub fn spoil_checksum(random: &mut Random, bytes: &mut [u8]) {
     let right = superblock::checksum_of(bytes);
     let at = random.between(8, superblock::LENGTH as u64 - 1) as usize;
     let sum = match random.below(4) {
@@ -80,14 +79,19 @@ fn spoil_checksum(random: &mut Random, bytes: &mut [u8]) {
     put(bytes, superblock::CHECKSUM_AT, &sum.to_le_bytes());
 }
 
-fn spoil_features(random: &mut Random, bytes: &mut [u8]) {
+/// The number of a feature bit that no feature has.
+pub fn stray_feature(random: &mut Random) -> u64 {
     let any = random.between(4, 63);
-    let bit = random.pick(&[4, 4, 5, 31, 32, 63, any]);
+    random.pick(&[4, 4, 5, 31, 32, 63, any])
+}
+
+pub fn spoil_features(random: &mut Random, bytes: &mut [u8]) {
+    let bit = stray_feature(random);
     bytes[superblock::FEATURES_AT + bit as usize / 8] |= 1 << (bit % 8);
     stamp(bytes);
 }
 
-fn spoil_owner(random: &mut Random, bytes: &mut [u8]) {
+pub fn spoil_owner(random: &mut Random, bytes: &mut [u8]) {
     let (bit, at) = random.pick(&[
         (superblock::HAS_OWNER, superblock::OWNER_AT),
         (superblock::HAS_GROUP, superblock::GROUP_AT),
@@ -108,17 +112,21 @@ fn spoil_perm_and_neighbours(random: &mut Random, bytes: &mut [u8]) {
     }
 }
 
-fn spoil_perm(random: &mut Random, bytes: &mut [u8]) {
+/// The lowest, which a check that is off by one would take, is the commonest.
+pub fn stray_perm(random: &mut Random) -> u32 {
     let any = 1 << random.between(9, 31) | random.below(0o1000) as u32;
     let chosen = random.pick(&STRAY_PERMS);
-    // The lowest, which a check that is off by one would take, is the commonest.
-    let perm = random.pick(&[0o1000, any, any, chosen, chosen]);
+    random.pick(&[0o1000, any, any, chosen, chosen])
+}
+
+pub fn spoil_perm(random: &mut Random, bytes: &mut [u8]) {
+    let perm = stray_perm(random);
     bytes[superblock::FEATURES_AT] |= superblock::HAS_PERM as u8;
     put(bytes, superblock::PERM_AT, &perm.to_le_bytes());
     stamp(bytes);
 }
 
-fn spoil_tail(random: &mut Random, bytes: &mut [u8]) {
+pub fn spoil_tail(random: &mut Random, bytes: &mut [u8]) {
     let at = match random.below(3) {
         0 => superblock::TAIL_AT,
         1 => superblock::LENGTH - 1,
@@ -195,14 +203,19 @@ fn bad_options(random: &mut Random) -> Vec<u8> {
     noise
 }
 
-/// Makes one zone of a report bad, mostly for chosen reasons.
+/// Makes one zone of a report bad.
 fn spoil_a_zone(random: &mut Random, shape: &mut Shape) {
     let number = match random.below(4) {
         0 => 0,
         1 => shape.zones.len() - 1,
         _ => random.below(shape.zones.len() as u64) as usize,
     };
-    let (zone, step) = (&mut shape.zones[number], u64::from(shape.block) / SECTOR);
+    let step = u64::from(shape.block) / SECTOR;
+    spoil_zone_of_report(random, &mut shape.zones[number], step, &mut shape.capacity_given);
+}
+
+/// Puts faults into a zone, mostly of chosen reasons. `step` is a block in sectors.
+pub fn spoil_zone_of_report(random: &mut Random, zone: &mut Zone, step: u64, capacity_given: &mut bool) {
     if random.percent(25) {
         spoil_zone(random, zone, step);
         return;
@@ -210,7 +223,7 @@ fn spoil_a_zone(random: &mut Random, shape: &mut Shape) {
     let chosen = faults::choose(random, &REASONS[..7]);
     faults::put(random, zone, step, &chosen);
     // Without its flag no capacity is looked at.
-    shape.capacity_given |= chosen.contains(&Reason::Capacity);
+    *capacity_given |= chosen.contains(&Reason::Capacity);
 }
 
 /// Puts one fault into a zone. Some faults are none for the zone they meet: a near miss is worth as much.

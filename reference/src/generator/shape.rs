@@ -2,12 +2,12 @@
 
 use super::random::Random;
 use crate::player::mount::Input;
-use crate::player::types::{DISK_LIMIT, SECTOR};
+use crate::player::types::{put, DISK_LIMIT, SECTOR};
 use crate::player::zone::{Zone, HEADER, RECORD};
 use crate::player::{superblock, zone};
 
 /// Perms that are good in use; the last is the highest.
-const MODES: [u32; 3] = [0, 0o640, 0o777];
+pub const MODES: [u32; 3] = [0, 0o640, 0o777];
 /// Perms that aren't: with the lowest of the stray bits, with a few of them, with one further up, with all.
 pub const STRAY_PERMS: [u32; 7] = [0o1000, 0o1777, 0o7777, 1 << 16, 1 << 31, 1 << 31 | 0o640, u32::MAX];
 
@@ -81,7 +81,7 @@ fn zones(random: &mut Random, step: u64, count: u64, capacity_given: bool) -> Ve
     zones
 }
 
-fn zone_length(random: &mut Random, step: u64) -> u64 {
+pub fn zone_length(random: &mut Random, step: u64) -> u64 {
     let blocks = match random.weighted(&[45, 30, 15, 10]) {
         0 => random.between(1, 6),
         1 => random.between(7, 64),
@@ -91,13 +91,13 @@ fn zone_length(random: &mut Random, step: u64) -> u64 {
     blocks * step
 }
 
-fn make_conventional(random: &mut Random, zone: &mut Zone, ill: u64) {
+pub fn make_conventional(random: &mut Random, zone: &mut Zone, ill: u64) {
     zone.kind = zone::CONVENTIONAL;
     zone.condition = ill_or(random, ill / 3, zone::NOT_WRITE_POINTER);
     zone.pointer = random.pick(&[0, zone.start, u64::MAX]);
 }
 
-fn make_sequential(random: &mut Random, zone: &mut Zone, step: u64, ill: u64, capacity_given: bool) {
+pub fn make_sequential(random: &mut Random, zone: &mut Zone, step: u64, ill: u64, capacity_given: bool) {
     zone.kind = random.pick(&[zone::SEQUENTIAL_REQUIRED, zone::SEQUENTIAL_PREFERRED]);
     if capacity_given && random.percent(60) {
         zone.capacity = random.between(1, zone.length / step) * step;
@@ -190,18 +190,8 @@ pub fn super_block(random: &mut Random, features: u64) -> Vec<u8> {
         random.pick(&[&MODES[..], &STRAY_PERMS].concat())
     };
     put(&mut bytes, superblock::PERM_AT, &perm.to_le_bytes());
-    stamp(&mut bytes);
+    superblock::stamp(&mut bytes);
     bytes
-}
-
-/// Puts the right checksum into a super block.
-pub fn stamp(bytes: &mut [u8]) {
-    let sum = superblock::checksum_of(bytes);
-    put(bytes, superblock::CHECKSUM_AT, &sum.to_le_bytes());
-}
-
-pub fn put(bytes: &mut [u8], at: usize, value: &[u8]) {
-    bytes[at..at + value.len()].copy_from_slice(value);
 }
 
 fn report(random: &mut Random, shape: &Shape) -> Vec<u8> {

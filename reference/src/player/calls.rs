@@ -2,8 +2,8 @@
 
 use super::tape::CallRecord;
 use super::types::{
-    sum_within, Access, Command, Condition, FileKind, Held, Mount, Operation, Refusal, Row, Volume,
-    DISK_LIMIT, MAX_FILES, SECTOR,
+    block_is_known, sum_within, Access, Command, Condition, FileKind, Held, Mount, Operation, Refusal, Row,
+    Volume, DISK_LIMIT, MAX_FILES, SECTOR,
 };
 
 #[derive(Clone, Copy, Debug, PartialEq, Eq)]
@@ -84,10 +84,9 @@ impl Volume {
 
     fn check_counts(&self) -> Result<(), Refusal> {
         let fits = |files: usize, rows: usize| files <= rows && files <= MAX_FILES;
-        let block_known = self.mount.block == 512 || self.mount.block == 4096;
         let counts_fit =
             fits(self.mount.cnv_files, self.cnv.len()) && fits(self.mount.seq_files, self.seq.len());
-        if block_known && counts_fit {
+        if block_is_known(self.mount.block) && counts_fit {
             Ok(())
         } else {
             Err(Refusal::Impossible)

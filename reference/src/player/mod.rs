@@ -1,9 +1,10 @@
-//! The player: mounting, deciding calls, digesting completions, and playing a tape of these. It uses nothing else of
-//! this crate.
+//! The player: mounting, deciding calls, digesting completions, playing a tape of these, and formatting. It uses nothing
+//! else of this crate.
 
 pub mod calls;
 pub mod checksum;
 pub mod completion;
+pub mod format;
 pub mod mount;
 pub mod options;
 pub mod play;

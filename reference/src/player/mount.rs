@@ -1,6 +1,6 @@
 //! Mounting: checks 20 to 30, with 33 between 25 and 26, and the rows that the zones give.
 
-use super::types::{Access, Condition, Mount, Refusal, Row, SECTOR};
+use super::types::{block_is_known, Access, Condition, Mount, Refusal, Row, SECTOR};
 use super::zone::Zone;
 use super::{options, superblock, zone};
 
@@ -16,7 +16,7 @@ pub struct Input {
 /// Fills the front of both tables. A refusal leaves them as they were, as it does the rows past the files.
 pub fn mount(input: &Input, cnv: &mut [Row], seq: &mut [Row]) -> Result<Mount, Refusal> {
     let block = u64::from(input.block);
-    if block != 512 && block != 4096 {
+    if !block_is_known(block) {
         return Err(Refusal::Block);
     }
     let super_block = superblock::decode(&input.super_block)?;

@@ -153,7 +153,7 @@ impl Reason {
     }
 }
 
-/// Those of a mount stand in the order of its checks.
+/// Those of a mount stand in the order of its checks. The last is the formatter's alone.
 #[derive(Clone, Copy, Debug, PartialEq, Eq)]
 pub enum Refusal {
     NoSuchFile,
@@ -177,6 +177,7 @@ pub enum Refusal {
     ReportHeader,
     BadZone { zone: u32, reason: Reason },
     TooFewRows,
+    Label,
 }
 
 impl Refusal {
@@ -203,6 +204,7 @@ impl Refusal {
             Refusal::ReportHeader => 28,
             Refusal::BadZone { .. } => 29,
             Refusal::TooFewRows => 30,
+            Refusal::Label => 34,
         }
     }
 
@@ -216,19 +218,31 @@ impl Refusal {
     }
 }
 
+/// Disks have blocks of one of these lengths.
+pub fn block_is_known(block: u64) -> bool {
+    block == 512 || block == 4096
+}
+
 /// `a + b <= limit`, for numbers whose sum may not fit.
 pub fn sum_within(a: u64, b: u64, limit: u64) -> bool {
     u128::from(a) + u128::from(b) <= u128::from(limit)
 }
 
+pub fn bytes_at<const COUNT: usize>(bytes: &[u8], at: usize) -> [u8; COUNT] {
+    let mut some = [0; COUNT];
+    some.copy_from_slice(&bytes[at..at + COUNT]);
+    some
+}
+
 pub fn u32_at(bytes: &[u8], at: usize) -> u32 {
-    let mut four = [0; 4];
-    four.copy_from_slice(&bytes[at..at + 4]);
-    u32::from_le_bytes(four)
+    u32::from_le_bytes(bytes_at(bytes, at))
 }
 
 pub fn u64_at(bytes: &[u8], at: usize) -> u64 {
-    let mut eight = [0; 8];
-    eight.copy_from_slice(&bytes[at..at + 8]);
-    u64::from_le_bytes(eight)
+    u64::from_le_bytes(bytes_at(bytes, at))
+}
+
+/// The other way round: writes a value's bytes.
+pub fn put(bytes: &mut [u8], at: usize, value: &[u8]) {
+    bytes[at..at + value.len()].copy_from_slice(value);
 }

@@ -1,8 +1,10 @@
-//! What the command line offers beside playing and making tapes: comparing another player, showing a tape, checksums.
+//! What the command line offers beside playing and making tapes: comparing another player, showing a tape, checksums. And
+//! the counts of what came in a comparison, those of the formatter's cases among them.
 
 pub mod compare;
 pub mod counter;
 pub mod describe;
+pub mod formats;
 pub mod perms;
 pub mod pointers;
 pub mod reasons;

@@ -15,17 +15,16 @@ pub const ZONE_PAIRS: Range<usize> = 1..7;
 pub const RECORD_PAIRS: Range<usize> = 2..9;
 const NUMBERS: usize = 10;
 
-/// Counts by a reason's number.
+/// Counts by a number: that of a reason, or the place of a refusal in the order of the checks.
 #[derive(Clone, Copy, Debug, Default, PartialEq, Eq)]
 pub struct Counts {
     pub given: [u64; NUMBERS],
-    /// Those with the fault of the next reason as well: a player that looks for that one first is wrong there.
+    /// Those with the next one's fault as well: a player that looks for that one first is wrong there.
     pub before_next: [u64; NUMBERS],
 }
 
 impl Counts {
-    fn count(&mut self, reason: Reason, has_next: bool) {
-        let number = reason.number() as usize;
+    pub fn count(&mut self, number: usize, has_next: bool) {
         self.given[number] += 1;
         self.before_next[number] += u64::from(has_next);
     }
@@ -33,6 +32,14 @@ impl Counts {
     fn add(&mut self, other: &Counts) {
         add_each(&mut self.given, &other.given);
         add_each(&mut self.before_next, &other.before_next);
+    }
+
+    /// The reasons of this answer that never came, and those that never came with the next one's fault.
+    pub fn missing_reasons(&self, answer: u32, all: Range<usize>, pairs: Range<usize>) -> Vec<String> {
+        let reasons = all.filter(|&number| self.given[number] == 0).map(|number| number.to_string());
+        let pairs = pairs.filter(|&number| self.before_next[number] == 0);
+        let orders = pairs.map(|number| format!("{number} before {}", number + 1));
+        reasons.chain(orders).map(|text| format!("{answer} with reason {text}")).collect()
     }
 }
 
@@ -48,7 +55,7 @@ pub struct Reasons {
 
 impl Counter for Reasons {
     fn bad_zone(&mut self, block: u64, zones: &[Zone], number: usize, reason: Reason) {
-        self.zones.count(reason, has_next_fault(&zones[number], block, reason));
+        self.zones.count(reason.number() as usize, has_next_fault(&zones[number], block, reason));
         let mut behind = zones[number..].windows(2).filter_map(|pair| second_fault(pair, block));
         self.lower_behind += u64::from(behind.any(|fault| fault < reason));
     }
@@ -62,7 +69,7 @@ impl Counter for Reasons {
             Reason::OtherZone => is_better(&zone, kind, row),
             _ => has_next_fault(&zone, failure.before.mount.block, reason),
         };
-        self.records.count(reason, has_next);
+        self.records.count(reason.number() as usize, has_next);
     }
 }
 
@@ -75,16 +82,8 @@ impl Reasons {
 
     /// What never came.
     pub fn missing(&self) -> Vec<String> {
-        let answers = [(29, &self.zones, OF_ZONES, ZONE_PAIRS), (9, &self.records, OF_RECORDS, RECORD_PAIRS)];
-        let mut missing = Vec::new();
-        for (answer, counts, all, pairs) in answers {
-            for number in all.filter(|&number| counts.given[number] == 0) {
-                missing.push(format!("{answer} with reason {number}"));
-            }
-            for number in pairs.filter(|&number| counts.before_next[number] == 0) {
-                missing.push(format!("{answer} with reason {number} before {}", number + 1));
-            }
-        }
+        let mut missing = self.zones.missing_reasons(29, OF_ZONES, ZONE_PAIRS);
+        missing.extend(self.records.missing_reasons(9, OF_RECORDS, RECORD_PAIRS));
         if self.lower_behind == 0 {
             missing.push("29 before a lower reason of a later zone".to_string());
         }
@@ -102,7 +101,7 @@ fn second_fault(pair: &[Zone], block: u64) -> Option<Reason> {
 }
 
 /// Whether a zone with this reason, from the start to the condition, has the next field's fault too.
-fn has_next_fault(zone: &Zone, block: u64, reason: Reason) -> bool {
+pub fn has_next_fault(zone: &Zone, block: u64, reason: Reason) -> bool {
     let step = block / SECTOR;
     match reason {
         Reason::Start => !zone.length_is_good(step),

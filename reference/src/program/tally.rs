@@ -158,6 +158,6 @@ impl Tally {
 }
 
 /// `1/2/3`.
-fn counts_text(counts: &[u64]) -> String {
+pub fn counts_text(counts: &[u64]) -> String {
     counts.iter().map(u64::to_string).collect::<Vec<_>>().join("/")
 }

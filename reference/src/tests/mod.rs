@@ -5,6 +5,7 @@ mod borders;
 mod calls;
 mod completion;
 mod consistency;
+mod format;
 mod generator;
 mod mount;
 mod perms;
@@ -37,6 +38,29 @@ pub fn stamp(bytes: &mut [u8]) {
     bytes[4..8].fill(0);
     let sum = crate::player::checksum::checksum(bytes);
     bytes[4..8].copy_from_slice(&sum.to_le_bytes());
+}
+
+/// Puts in the faults of those numbers that are a super block's; 25 by the id at `id_at` with its feature bit.
+pub fn spoil_super_block(bytes: &mut Vec<u8>, faults: &[u32], id_at: usize, id_bit: u8) {
+    for fault in faults {
+        match fault {
+            22 => bytes[0] ^= 1,
+            24 => bytes[88] |= 16,
+            25 => {
+                bytes[88] |= id_bit;
+                bytes[id_at..id_at + 4].fill(0xFF);
+            }
+            33 => {
+                bytes[88] |= 8;
+                bytes[104..108].copy_from_slice(&[0, 2, 0, 0]);
+            }
+            26 => bytes[4095] = 1,
+            _ => {}
+        }
+    }
+    stamp(bytes);
+    bytes[4] ^= u8::from(faults.contains(&23));
+    bytes.resize(4096 + usize::from(faults.contains(&21)), 0);
 }
 
 pub fn zone(start: u64, length: u64, pointer: u64, kind: u8, condition: u8, capacity: u64) -> Zone {

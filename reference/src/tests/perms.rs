@@ -68,29 +68,15 @@ const ORDER: [u32; 12] = [20, 21, 22, 23, 24, 25, 33, 26, 27, 28, 29, 30];
 fn answer_with(faults: &[u32], id_at: usize, id_bit: u8) -> u32 {
     let mut input = sheet_input();
     for fault in faults {
-        let bytes = &mut input.super_block;
         match fault {
             20 => input.block = 1024,
-            22 => bytes[0] ^= 1,
-            24 => bytes[88] |= 16,
-            25 => {
-                bytes[88] |= id_bit;
-                bytes[id_at..id_at + 4].fill(0xFF);
-            }
-            33 => {
-                bytes[88] |= 8;
-                bytes[104..108].copy_from_slice(&[0, 2, 0, 0]);
-            }
-            26 => bytes[4095] = 1,
             27 => input.options = b"errors=".to_vec(),
             28 => input.report[0] = 1,
             29 => input.report[16] = 1,
-            _ => assert!([21, 23, 30].contains(fault), "its place is below"),
+            _ => assert!([21, 22, 23, 24, 25, 33, 26, 30].contains(fault), "its place is below"),
         }
     }
-    stamp(&mut input.super_block);
-    input.super_block[4] ^= u8::from(faults.contains(&23));
-    input.super_block.resize(4096 + usize::from(faults.contains(&21)), 0);
+    spoil_super_block(&mut input.super_block, faults, id_at, id_bit);
     let mut rows = [[Row::EMPTY; 2]; 2];
     let [cnv, seq] = &mut rows;
     let lent = if faults.contains(&30) { 1 } else { 2 };

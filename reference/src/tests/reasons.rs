@@ -79,26 +79,26 @@ fn writing_cnv() -> Volume {
 }
 
 /// Which of the reasons 1 to 9 a zone has the fault of.
-struct Faults(u64);
+pub struct Faults(u64);
 
 impl Faults {
     /// All sets of these reasons that aren't empty.
-    fn sets(reasons: std::ops::RangeInclusive<u64>) -> impl Iterator<Item = Faults> {
+    pub fn sets(reasons: std::ops::RangeInclusive<u64>) -> impl Iterator<Item = Faults> {
         let (first, last) = (*reasons.start(), *reasons.end());
         (1..1u64 << (last - first + 1)).map(move |set| Faults(set << first))
     }
 
-    fn has(&self, reason: u64) -> bool {
+    pub fn has(&self, reason: u64) -> bool {
         self.0 >> reason & 1 == 1
     }
 
-    fn lowest(&self) -> u64 {
+    pub fn lowest(&self) -> u64 {
         u64::from(self.0.trailing_zeros())
     }
 
-    /// A length with the faults 2 and 4, if they are in the set.
-    fn length(&self) -> u64 {
-        (if self.has(4) { LIMIT } else { L }) + u64::from(self.has(2))
+    /// A length with the faults 2 and 4, if they are in the set, wherever the zone starts.
+    pub fn length(&self) -> u64 {
+        (if self.has(4) { LIMIT + 8 } else { L }) + u64::from(self.has(2))
     }
 }
 
