@@ -1,8 +1,8 @@
 /*
- * A small program on the proved library: mounts a volume, appends to a file, has the next append fail halfway, recovers, and goes on. Of the
- * failure it first hands over another zone's record, to show how a refusal says what is bad.
- * The disk is played by this program: it makes up the super block, the zone report, and the record that comes with the failure. On Linux the
- * bytes that BLKREPORTZONE gives, and those of a zone's record, can be passed on as they come.
+ * A small program on the proved library: formats a disk, mounts it, appends to a file, has the next append fail halfway, recovers, and goes on. Of
+ * the failure it first hands over another zone's record, to show how a refusal says what is bad.
+ * The disk is played by this program: it makes up the zone report, and the record that comes with the failure. On Linux the bytes that
+ * BLKREPORTZONE gives, and those of a zone's record, can be passed on as they come.
  * It prints each step, and ends with status 1 where a step answers otherwise than it should. Build and run: docs/LINKING.md.
  */
 #include <inttypes.h>
@@ -28,13 +28,6 @@ static void put(uint8_t *bytes, uint64_t value, unsigned count) {
   unsigned i;
   for (i = 0; i < count; i++)
     bytes[i] = (uint8_t)(value >> (8 * i));
-}
-
-static void make_super_block(uint8_t *block) {
-  memset(block, 0, ZONEFS_SUPER_BYTES);
-  put(block, 0x5A4F4653u, 4);
-  /* the checksum is taken while its own field is still zero */
-  put(block + 4, zonefs_checksum(block, ZONEFS_SUPER_BYTES), 4);
 }
 
 /* A zone record. Types: 1 conventional, 2 sequential. */
@@ -84,6 +77,8 @@ static void print_values(struct zonefs_volume_answer a) {
   case ZONEFS_VOLUME_COMMAND: printf(" %" PRIu32 " %" PRIu64 " %" PRIu64, a.command, a.address, a.length); break;
   case ZONEFS_VOLUME_DONE: printf(" %" PRIu64, a.count); break;
   case ZONEFS_VOLUME_FAILED: printf(" %" PRIu64, a.size); break;
+  case ZONEFS_VOLUME_FORMATTED: printf(" %" PRIu32, a.finish); break;
+  case ZONEFS_VOLUME_FIELDS: break; /* they are in the caller's struct */
   case ZONEFS_VOLUME_REFUSED: print_refusal(a); break;
   }
 }
@@ -126,12 +121,24 @@ static void show_full_file(void) {
   }
 }
 
+/*
+ * A super block with no feature: owner and group 0, mode 0640. The report's first record is that of zone 0, which is conventional and so not to be
+ * finished. A disk would get the block as its first bytes.
+ */
+static void format_disk(uint8_t *super_block, const uint8_t *report) {
+  static const struct zonefs_volume_super values = {"firmware", 8, {0}, 0, 0, 0, 0};
+  step("format",
+       zonefs_volume_format(BLOCK, super_block, ZONEFS_SUPER_BYTES, &values, report + ZONEFS_HEADER_BYTES, ZONEFS_ZONE_BYTES,
+                            ZONEFS_CAPACITY_GIVEN),
+       ZONEFS_OK);
+}
+
 /* Lends the tables to the volume, and mounts it from the disk's first bytes and its report. */
 static void mount_volume(void) {
   static uint8_t super_block[ZONEFS_SUPER_BYTES];
   static uint8_t report[ZONEFS_HEADER_BYTES + ZONES * ZONEFS_ZONE_BYTES];
-  make_super_block(super_block);
   make_report(report);
+  format_disk(super_block, report);
   zonefs_volume_lend(&volume, cnv, ROWS * ZONEFS_ROW_WORDS, seq, ROWS * ZONEFS_ROW_WORDS);
   step("mount",
        zonefs_volume_mount(&volume, BLOCK, super_block, sizeof(super_block), "errors=repair", report, sizeof(report)),

@@ -6,6 +6,7 @@
  * zones: of kind cnv in conventional zones, of kind seq in a sequential one. The library itself does nothing to the disk: a call answers with
  * a command, the caller has the disk do it, and then tells the library how that went.
  *
+ *   zonefs_format, zonefs_super_fields                  make a disk's first bytes, or read the values in them; no mount is needed
  *   zonefs_mount                                        once, with the disk's first bytes and its zone report
  *   zonefs_read, _write, _truncate, _flush              refused, answered at once, or a command for the disk, which is then outstanding
  *   zonefs_complete, zonefs_fail                        the outstanding command was done, or failed; the next call may follow
@@ -23,9 +24,10 @@
  * memory holds: each function answers for every content, and reads or writes nothing outside the slices. One thread at a time may use
  * one mount's memory.
  *
- * Each function but zonefs_checksum returns one of the numbers below. Where a slice for mount words or answer words is too short, or the mount
- * words hold no mount value, the number is ZONEFS_IMPOSSIBLE and nothing is written. Otherwise the answer words are written, also with a
- * refusal: word 0 is the number of values, and words 1 to 6 are the values, with 0 after the last.
+ * Each function but zonefs_checksum returns one of the numbers below. Where a slice for mount words or answer words is too short, one for a
+ * uuid, or to read a label into, has another length than it should have, or the mount words hold no mount value, the number is ZONEFS_IMPOSSIBLE
+ * and nothing is written. Otherwise the answer words are written, also with a refusal: word 0 is the number of values, and words 1 to 6 are the
+ * values, with 0 after the last.
  *
  * A table has as many rows as its words divided by ZONEFS_ROW_WORDS, rounded down. Too few rows for the files answer ZONEFS_TOO_FEW_ROWS to a mount
  * and ZONEFS_IMPOSSIBLE after it; more than needed are left alone.
@@ -50,8 +52,12 @@ extern "C" {
 /* The most files of a kind, so that tables of this many rows are always long enough. */
 #define ZONEFS_MOST_FILES 1022
 
-/* The bytes of a super block, of a report's header and of a zone record, and the most zones of a report. */
+/* The bytes of a super block, and of the label and the uuid in it. */
 #define ZONEFS_SUPER_BYTES 4096
+#define ZONEFS_LABEL_BYTES 64
+#define ZONEFS_UUID_BYTES 16
+
+/* The bytes of a report's header and of a zone record, and the most zones of a report. */
 #define ZONEFS_HEADER_BYTES 16
 #define ZONEFS_ZONE_BYTES 64
 #define ZONEFS_MOST_ZONES 1023
@@ -68,7 +74,7 @@ enum {
   ZONEFS_FAILED = 7,              /* the disk failed it, and that was digested; one value: the file's new size */
   ZONEFS_NOTHING_OUTSTANDING = 8, /* completion with nothing outstanding */
   ZONEFS_BAD_RECORD = 9,          /* the failed completion's zone record doesn't fit; the command stays outstanding; one value: the reason */
-  ZONEFS_IMPOSSIBLE = 10,         /* mount value or tables impossible, or mount words, answer words or tables too short */
+  ZONEFS_IMPOSSIBLE = 10,         /* mount value or tables impossible, or words or tables too short; a uuid or a label buffer of another length */
   ZONEFS_BAD_BLOCK = 20,          /* block neither 512 nor 4096 */
   ZONEFS_SUPER_LENGTH = 21,       /* super block: length, magic, checksum */
   ZONEFS_SUPER_MAGIC = 22,
@@ -80,12 +86,14 @@ enum {
   ZONEFS_BAD_REPORT = 28,         /* report header or length */
   ZONEFS_BAD_ZONE = 29,           /* bad zone; two values: the lowest number of one, and the reason */
   ZONEFS_TOO_FEW_ROWS = 30,       /* too few rows in the tables for the files of either kind */
-  ZONEFS_SUPER_PERM = 33          /* perm in use (feature bit 3) and above 0777; checked after 25 and before 26 */
+  ZONEFS_SUPER_PERM = 33,         /* perm in use (feature bit 3) and above 0777; checked after 25 and before 26 */
+  ZONEFS_LABEL_LENGTH = 34        /* zonefs_format: label longer than ZONEFS_LABEL_BYTES; checked after 33 and before 29 */
 };
 
 /*
  * The reasons of ZONEFS_BAD_ZONE and ZONEFS_BAD_RECORD: what is bad of the zone, the first of these. A zone of a report is tested for 1 to 7,
- * and the record of a failure, which may start anywhere, for 0 and 2 to 9. Positions are in sectors, and no sum wraps.
+ * zone 0's record for zonefs_format for 0 to 7, and the record of a failure, which may start anywhere, for 0 and 2 to 9. Positions are in
+ * sectors, and no sum wraps.
  */
 enum {
   ZONEFS_REASON_NO_RECORD = 0,       /* the record is not ZONEFS_ZONE_BYTES long, so it has no field to name */
@@ -98,6 +106,17 @@ enum {
   ZONEFS_REASON_POINTER = 7,         /* sequential, conditions 1 to 4: the pointer is outside start..start + capacity, or on no block */
   ZONEFS_REASON_OTHER_ZONE = 8,      /* not this file's zone: seq: another kind, start or capacity; cnv: another kind, or not within the file */
   ZONEFS_REASON_BETTER_CONDITION = 9 /* the condition is better than the row's of a seq file; from best to worst: healthy, read-only, offline */
+};
+
+/*
+ * The features of a super block, one bit each. Where its bit is clear, owner, group and mode are not looked at: a mount then has the owner or
+ * group 0, and the mode 0640.
+ */
+enum {
+  ZONEFS_FEATURE_AGGREGATE = 1, /* each run of neighbouring conventional zones is one file */
+  ZONEFS_FEATURE_UID = 2,       /* the owner is in use */
+  ZONEFS_FEATURE_GID = 4,       /* the group is in use */
+  ZONEFS_FEATURE_PERM = 8       /* the mode is in use */
 };
 
 /* Kinds of files, as an argument and as a value. */
@@ -144,9 +163,18 @@ enum {
   ZONEFS_ANSWER_CNV_FILES = 1,
   ZONEFS_ANSWER_SEQ_FILES = 2,
 
-  /* zonefs_mount: 29 */
-  ZONEFS_ANSWER_ZONE = 1,        /* the lowest number of a bad zone */
-  ZONEFS_ANSWER_ZONE_REASON = 2, /* ZONEFS_REASON_START to ZONEFS_REASON_POINTER */
+  /* zonefs_mount, zonefs_format: 29 */
+  ZONEFS_ANSWER_ZONE = 1,        /* the lowest number of a bad zone; of zonefs_format 0 */
+  ZONEFS_ANSWER_ZONE_REASON = 2, /* ZONEFS_REASON_START to ZONEFS_REASON_POINTER; of zonefs_format also ZONEFS_REASON_NO_RECORD */
+
+  /* zonefs_format: 0 */
+  ZONEFS_ANSWER_FINISH = 1,      /* 1 where zone 0 must first be finished, else 0 */
+
+  /* zonefs_super_fields: 0 */
+  ZONEFS_ANSWER_SUPER_FEATURES = 1, /* ZONEFS_FEATURE_AGGREGATE to ZONEFS_FEATURE_PERM, added up */
+  ZONEFS_ANSWER_SUPER_OWNER = 2,
+  ZONEFS_ANSWER_SUPER_GROUP = 3,
+  ZONEFS_ANSWER_SUPER_MODE = 4,
 
   /* zonefs_find: 0 */
   ZONEFS_ANSWER_KIND = 1,
@@ -217,6 +245,37 @@ enum {
 
 /* BLK_ZONE_REP_CAPACITY, the only flag of a report. */
 enum { ZONEFS_CAPACITY_GIVEN = 1 };
+
+/*
+ * Formats: makes the super block of a disk, 4,096 bytes, in memory. The library touches no disk: where the value is 1, the caller first has
+ * zone 0 finished; then it writes the block to the disk's first 4,096 bytes. docs/LINKING.md has the way for a zone 0 that takes writes at its
+ * pointer alone, and so none once it is full.
+ * Reads the block (512 or 4096), the label, which is any bytes, up to ZONEFS_LABEL_BYTES, without a final zero, the uuid, and the record of zone
+ * 0, which is the first one of a report. capacity_given is 0 where the record states no capacity, and anything else where it does: bit 0 of that
+ * report's flags (ZONEFS_CAPACITY_GIVEN), which has no others.
+ * Writes all 4,096 bytes of the super block, whatever stood there: label (with zeros after it), uuid, features, owner, group and mode exactly as
+ * given, also where their feature bit is clear, with magic and checksum, and zeros in the tail. Such a block mounts, all else good, with exactly
+ * these values, those without their bit ignored.
+ * Returns 0, with one value: 1 where zone 0 must first be finished, which is where it is sequential, healthy and below its capacity in size
+ * (a full one isn't, whatever its pointer), else 0. Or returns, in this order, 10 (the uuid is not ZONEFS_UUID_BYTES long, or answer words too
+ * few), 20 (the block), 21 (the lent super block is not ZONEFS_SUPER_BYTES long), 24, 25, 33, 34 (the label is too long), 29 with two values,
+ * zone 0 and the reason: the record is no good first zone of a report, so it has to start at 0 too, or is not ZONEFS_ZONE_BYTES long. Refused,
+ * the lent super block is as it was.
+ */
+uint64_t zonefs_format(uint64_t block, uint8_t *superblock, size_t superblock_bytes, const uint8_t *label,
+                       size_t label_bytes, const uint8_t *uuid, size_t uuid_bytes, uint64_t features, uint32_t owner,
+                       uint32_t group, uint32_t mode, const uint8_t *record, size_t record_bytes, uint32_t capacity_given,
+                       uint64_t *answer, size_t answer_words);
+
+/*
+ * Reads the values of a super block, as they stand there: also owner, group and mode whose feature bit is clear. Formatted again with them, the
+ * block has the same bytes. Reads the super block; writes the label, all ZONEFS_LABEL_BYTES of it, and the uuid to the lent buffers, which have
+ * exactly ZONEFS_LABEL_BYTES and ZONEFS_UUID_BYTES.
+ * Returns 0, with four values, features, owner, group and mode; or 10 (a buffer of another length, or answer words too few), 21 to 26, 33, as a
+ * mount does and in its order (21 to 25, 33, 26). Refused, both buffers are as they were.
+ */
+uint64_t zonefs_super_fields(const uint8_t *superblock, size_t superblock_bytes, uint8_t *label, size_t label_bytes,
+                             uint8_t *uuid, size_t uuid_bytes, uint64_t *answer, size_t answer_words);
 
 /*
  * Mounts. Reads the block (512 or 4096), the disk's first 4,096 bytes (the super block), the option text and the zone report. The options
@@ -293,7 +352,7 @@ uint64_t zonefs_fail(uint64_t *mount, size_t mount_words, uint64_t *cnv, size_t 
 
 /*
  * The checksum of bytes: reflected CRC-32, polynomial 0xEDB88320, start all ones, no final inversion. A super block's checksum is that of its
- * 4,096 bytes with the checksum field, bytes 4 to 7, zero. Reads the bytes only.
+ * 4,096 bytes with the checksum field, bytes 4 to 7, zero; zonefs_format makes a whole block, with its checksum. Reads the bytes only.
  */
 uint32_t zonefs_checksum(const uint8_t *bytes, size_t count);
 

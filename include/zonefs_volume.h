@@ -14,6 +14,9 @@
  * Until it is mounted, and after a refused mount, a volume answers as the plain functions do with mount words of 0: 10 to a call, to finding and
  * to showing, 8 to a completion. That holds before zonefs_volume_lend too, if the struct is all zero, as a static one is; it has no rows then. A
  * table with a null pointer always has none. A copy of the struct is no second volume: both would change the same tables.
+ *
+ * A disk that has never been mounted needs a super block first. zonefs_volume_format makes one from a struct of its values, and
+ * zonefs_volume_super_fields reads them back; neither takes a volume.
  */
 #ifndef ZONEFS_VOLUME_H
 #define ZONEFS_VOLUME_H
@@ -32,6 +35,20 @@ struct zonefs_volume {
   size_t seq_words;
 };
 
+/*
+ * The values of a super block. The label is any bytes, not only text. It has one byte more than a super block holds, so that a label read back
+ * ends in a zero and a text of ZONEFS_LABEL_BYTES characters fits with its own. A label_bytes above ZONEFS_LABEL_BYTES is refused, whatever it is.
+ */
+struct zonefs_volume_super {
+  char label[ZONEFS_LABEL_BYTES + 1];
+  size_t label_bytes;              /* how many bytes of it count; the block has zeros after them */
+  uint8_t uuid[ZONEFS_UUID_BYTES];
+  uint64_t features;               /* ZONEFS_FEATURE_AGGREGATE to ZONEFS_FEATURE_PERM, added up */
+  uint32_t owner;                  /* this and the next two are kept, but not in use, without their feature */
+  uint32_t group;
+  uint32_t mode;
+};
+
 /* What kind of answer it is. */
 enum zonefs_volume_outcome {
   ZONEFS_VOLUME_REFUSED = 0, /* the number says why; nothing changed, but for the mount words of a refused mount */
@@ -40,7 +57,9 @@ enum zonefs_volume_outcome {
   ZONEFS_VOLUME_COMMAND = 3, /* the disk is to do a command, which is outstanding until zonefs_volume_complete or zonefs_volume_fail */
   ZONEFS_VOLUME_MOUNTED = 4,
   ZONEFS_VOLUME_FOUND = 5,
-  ZONEFS_VOLUME_SHOWN = 6
+  ZONEFS_VOLUME_SHOWN = 6,
+  ZONEFS_VOLUME_FORMATTED = 7, /* the super block is written, in memory */
+  ZONEFS_VOLUME_FIELDS = 8     /* the values of a super block were read */
 };
 
 /*
@@ -48,7 +67,7 @@ enum zonefs_volume_outcome {
  * fields: 0 is a zone's number too, and the reason of a record that is not 64 bytes long.
  */
 struct zonefs_volume_answer {
-  uint64_t number; /* 0, or the refusal's: ZONEFS_NO_FILE to ZONEFS_SUPER_PERM */
+  uint64_t number; /* 0, or the refusal's: ZONEFS_NO_FILE to ZONEFS_LABEL_LENGTH */
   enum zonefs_volume_outcome outcome;
 
   uint64_t count;       /* DONE: the bytes read or written */
@@ -67,6 +86,7 @@ struct zonefs_volume_answer {
   uint32_t condition;   /* SHOWN: ZONEFS_HEALTHY to ZONEFS_OFFLINE */
   uint32_t access;      /* SHOWN: ZONEFS_ACCESS_NONE to ZONEFS_ACCESS_WRITE */
   uint32_t mode;        /* SHOWN: the permission bits */
+  uint32_t finish;      /* FORMATTED: 1 where zone 0 must first be finished, else 0 */
 };
 
 /* What a number says, in a few words. */
@@ -95,6 +115,7 @@ static inline const char *zonefs_volume_refusal_text(uint64_t number) {
   case ZONEFS_BAD_ZONE: return "bad zone in the report";
   case ZONEFS_TOO_FEW_ROWS: return "tables too short for the files";
   case ZONEFS_SUPER_PERM: return "super block with a perm above 0777";
+  case ZONEFS_LABEL_LENGTH: return "label longer than 64 bytes";
   default: return "no number of this library";
   }
 }
@@ -119,16 +140,32 @@ static inline const char *zonefs_volume_reason_text(uint64_t reason) {
 /* ---- how the plain functions' words become an answer; not for callers */
 
 static inline struct zonefs_volume_answer zonefs_volume_answer_bare(uint64_t number) {
-  struct zonefs_volume_answer a = {number, ZONEFS_VOLUME_REFUSED, 0, 0, 0, 0, 0, 0, 0, 0, 0, 0, 0, 0, 0, 0, 0, 0};
+  struct zonefs_volume_answer a = {number, ZONEFS_VOLUME_REFUSED, 0, 0, 0, 0, 0, 0, 0, 0, 0, 0, 0, 0, 0, 0, 0, 0, 0};
   return a;
 }
 
-static inline struct zonefs_volume_answer zonefs_volume_answer_of_mount(uint64_t number, const uint64_t *words) {
+/* of a mount or the formatter, which may have found a bad zone */
+static inline struct zonefs_volume_answer zonefs_volume_answer_with_zone(uint64_t number, const uint64_t *words) {
   struct zonefs_volume_answer a = zonefs_volume_answer_bare(number);
   if (number == ZONEFS_BAD_ZONE) {
     a.zone = (uint32_t)words[ZONEFS_ANSWER_ZONE];
     a.reason = (uint32_t)words[ZONEFS_ANSWER_ZONE_REASON];
-  } else if (number == ZONEFS_OK) {
+  }
+  return a;
+}
+
+static inline struct zonefs_volume_answer zonefs_volume_answer_of_format(uint64_t number, const uint64_t *words) {
+  struct zonefs_volume_answer a = zonefs_volume_answer_with_zone(number, words);
+  if (number == ZONEFS_OK) {
+    a.outcome = ZONEFS_VOLUME_FORMATTED;
+    a.finish = (uint32_t)words[ZONEFS_ANSWER_FINISH];
+  }
+  return a;
+}
+
+static inline struct zonefs_volume_answer zonefs_volume_answer_of_mount(uint64_t number, const uint64_t *words) {
+  struct zonefs_volume_answer a = zonefs_volume_answer_with_zone(number, words);
+  if (number == ZONEFS_OK) {
     a.outcome = ZONEFS_VOLUME_MOUNTED;
     a.cnv_files = (uint32_t)words[ZONEFS_ANSWER_CNV_FILES];
     a.seq_files = (uint32_t)words[ZONEFS_ANSWER_SEQ_FILES];
@@ -188,6 +225,14 @@ static inline size_t zonefs_volume_text_bytes(const char *text) {
   return count;
 }
 
+/* the bytes of a label up to its last that is not zero */
+static inline size_t zonefs_volume_label_bytes(const char *label) {
+  size_t count = ZONEFS_LABEL_BYTES;
+  while (count > 0 && label[count - 1] == '\0')
+    count--;
+  return count;
+}
+
 /*
  * What a volume lends to a plain function. The library takes no null pointer: for a table of no words the mount words' address stands in, of
  * which it then reads none.
@@ -198,6 +243,47 @@ static inline size_t zonefs_volume_text_bytes(const char *text) {
 #define ZONEFS_VOLUME_LENT ZONEFS_VOLUME_WORDS, ZONEFS_VOLUME_TABLES
 
 /* ---- the functions */
+
+/*
+ * Makes a super block of these values, in memory: FORMATTED with finish, or refused by 20, 21, 24, 25, 33, 34, 29 with zone 0 and a reason, in
+ * this order, and the super block is as it was. The record is that of zone 0, the first one of a report: a struct blk_zone as it comes, or any 64
+ * bytes laid out like it; capacity_given is the flags of that report, bit 0. Where finish is 1, the caller first has zone 0 finished; then it writes the
+ * block to the disk's first 4,096 bytes (docs/LINKING.md has more on both).
+ */
+static inline struct zonefs_volume_answer zonefs_volume_format(uint64_t block, void *superblock, size_t superblock_bytes,
+                                                               const struct zonefs_volume_super *values, const void *record,
+                                                               size_t record_bytes, uint32_t capacity_given) {
+  uint64_t words[ZONEFS_ANSWER_WORDS] = {0};
+  /* of a label that is too long no more is lent than there is: one byte more than a label has is refused as well */
+  size_t label_bytes = values->label_bytes <= ZONEFS_LABEL_BYTES ? values->label_bytes : sizeof(values->label);
+  uint64_t number = zonefs_format(block, (uint8_t *)superblock, superblock_bytes, (const uint8_t *)values->label, label_bytes,
+                                  values->uuid, ZONEFS_UUID_BYTES, values->features, values->owner, values->group,
+                                  values->mode, (const uint8_t *)record, record_bytes, capacity_given, words,
+                                  ZONEFS_ANSWER_WORDS);
+  return zonefs_volume_answer_of_format(number, words);
+}
+
+/*
+ * Reads the values of a super block: FIELDS, with the label ended by a zero and label_bytes without the zeros at its end; or refused by 21 to 26
+ * or 33, and the struct is as it was. Formatted with these values, the block has the same bytes.
+ */
+static inline struct zonefs_volume_answer zonefs_volume_super_fields(const void *superblock, size_t superblock_bytes,
+                                                                     struct zonefs_volume_super *values) {
+  uint64_t words[ZONEFS_ANSWER_WORDS] = {0};
+  uint64_t number = zonefs_super_fields((const uint8_t *)superblock, superblock_bytes, (uint8_t *)values->label,
+                                        ZONEFS_LABEL_BYTES, values->uuid, ZONEFS_UUID_BYTES, words, ZONEFS_ANSWER_WORDS);
+  struct zonefs_volume_answer a = zonefs_volume_answer_bare(number);
+  if (number == ZONEFS_OK) {
+    a.outcome = ZONEFS_VOLUME_FIELDS;
+    values->label[ZONEFS_LABEL_BYTES] = '\0';
+    values->label_bytes = zonefs_volume_label_bytes(values->label);
+    values->features = words[ZONEFS_ANSWER_SUPER_FEATURES];
+    values->owner = (uint32_t)words[ZONEFS_ANSWER_SUPER_OWNER];
+    values->group = (uint32_t)words[ZONEFS_ANSWER_SUPER_GROUP];
+    values->mode = (uint32_t)words[ZONEFS_ANSWER_SUPER_MODE];
+  }
+  return a;
+}
 
 /* Lends the tables, with the number of their words, to a volume that is not mounted yet. Nothing of them is read or written here. */
 static inline void zonefs_volume_lend(struct zonefs_volume *volume, uint64_t *cnv, size_t cnv_words, uint64_t *seq,

@@ -1,6 +1,6 @@
 /*
  * Compares the functions of zonefs_volume.h with the plain ones of zonefs.h, call by call, on a small volume: every number that the library
- * has, every reason of 29 and 9, each command, and answers at once. Of each answer all fields are compared, and all words and rows that
+ * has, every reason of 29 and 9, each command, and answers at once. Of each answer all fields are compared, and all words, rows and bytes that
  * both leave. Words of answers are counted out here, not named, so that a wrong name in the header shows. C99 and C++11. Ends with status 1
  * at the first difference.
  */
@@ -16,6 +16,7 @@
 #define CNV_WORDS 10u /* two files */
 #define SEQ_WORDS 15u /* three files, so that the tables cannot be taken for one another */
 #define BYTES(sectors) ((uint64_t)(sectors) * 512u)
+#define UNTOUCHED 0xA5 /* fills what is lent, to see what was written */
 
 #ifdef __cplusplus
 #define LANGUAGE "C++"
@@ -30,7 +31,11 @@ static size_t cnv_words, seq_words;
 static struct zonefs_volume volume;
 
 static uint8_t super_block[4096], report[16 + 6 * 64], record[65];
-static unsigned compared, seen[34], at_once, commands[5], zone_reasons[10], record_reasons[10];
+static unsigned compared, seen[35], at_once, commands[5], zone_reasons[10], record_reasons[10], format_reasons[10];
+
+/* a super block's values, and the block that both functions make of them */
+static struct zonefs_volume_super values;
+static uint8_t made[4096], volume_made[4096];
 
 /* ---- the disk's bytes */
 
@@ -86,7 +91,7 @@ static int same_words(const uint64_t *a, const uint64_t *b, size_t count) {
   return memcmp(a, b, count * sizeof(*a)) == 0;
 }
 
-enum function { MOUNT, FIND, SHOW, CALL, COMPLETION };
+enum function { MOUNT, FIND, SHOW, CALL, COMPLETION, FORMAT, FIELDS };
 
 static void put_shown(struct zonefs_volume_answer *a) {
   a->outcome = ZONEFS_VOLUME_SHOWN;
@@ -125,6 +130,11 @@ static struct zonefs_volume_answer by_words(enum function f, uint64_t number) {
     a.file_number = (uint32_t)words[2];
   } else if (number == 0 && f == SHOW) {
     put_shown(&a);
+  } else if (number == 0 && f == FORMAT) {
+    a.outcome = ZONEFS_VOLUME_FORMATTED;
+    a.finish = (uint32_t)words[1];
+  } else if (number == 0 && f == FIELDS) {
+    a.outcome = ZONEFS_VOLUME_FIELDS;
   } else if (number == 0) {
     put_decided(&a);
   }
@@ -143,6 +153,7 @@ static void compare(const char *what, enum function f, uint64_t number, struct z
   need(got.file_kind == a.file_kind && got.file_number == a.file_number, what, "the file found");
   need(got.start == a.start && got.capacity == a.capacity, what, "start or capacity");
   need(got.condition == a.condition && got.access == a.access && got.mode == a.mode, what, "condition, access or mode");
+  need(got.finish == a.finish, what, "finish");
   need(same_words(mount_words, volume.mount, 16), what, "the mount words");
   need(same_words(cnv, volume_cnv, CNV_WORDS) && same_words(seq, volume_seq, SEQ_WORDS), what, "the tables");
   compared++;
@@ -215,6 +226,44 @@ static void complete(uint64_t expected) {
 static void fail(size_t bytes, uint32_t given, uint64_t expected) {
   uint64_t number = zonefs_fail(PLAIN, record, bytes, given, words, 7);
   compare("fail", COMPLETION, number, zonefs_volume_fail(&volume, record, bytes, given), expected);
+}
+
+static int untouched(const void *bytes, size_t count) {
+  const uint8_t *b = (const uint8_t *)bytes;
+  while (count > 0 && b[count - 1] == UNTOUCHED)
+    count--;
+  return count == 0;
+}
+
+/* a label can be longer than the struct has room for; the plain function is lent what there is */
+static void format_of(const char *what, uint64_t block, size_t bytes, size_t record_bytes, uint32_t given, uint64_t expected) {
+  size_t label_bytes = values.label_bytes < sizeof(values.label) ? values.label_bytes : sizeof(values.label);
+  uint64_t number;
+  memset(made, UNTOUCHED, sizeof(made));
+  memset(volume_made, UNTOUCHED, sizeof(volume_made));
+  number = zonefs_format(block, made, bytes, (const uint8_t *)values.label, label_bytes, values.uuid, 16, values.features,
+                         values.owner, values.group, values.mode, record, record_bytes, given, words, 7);
+  compare(what, FORMAT, number, zonefs_volume_format(block, volume_made, bytes, &values, record, record_bytes, given), expected);
+  need(memcmp(made, volume_made, sizeof(made)) == 0, what, "the super block");
+  need(words[0] == (number == 0 ? 1u : number == 29 ? 2u : 0u), what, "another number of values than expected");
+  need(untouched(made, sizeof(made)) == (number != 0), what, "a refusal writes, or nothing is written");
+}
+
+/* the values of the super block as it is made up now, to be had again from the struct */
+static void fields_of(const char *what, size_t bytes, uint64_t expected, struct zonefs_volume_super *got) {
+  uint8_t label[64], uuid[16];
+  uint64_t number;
+  memset(label, UNTOUCHED, sizeof(label));
+  memset(uuid, UNTOUCHED, sizeof(uuid));
+  memset(got, UNTOUCHED, sizeof(*got));
+  number = zonefs_super_fields(super_block, bytes, label, 64, uuid, 16, words, 7);
+  compare(what, FIELDS, number, zonefs_volume_super_fields(super_block, bytes, got), expected);
+  need(memcmp(label, got->label, 64) == 0 && memcmp(uuid, got->uuid, 16) == 0, what, "label or uuid");
+  need(untouched(got, sizeof(*got)) == (number != 0), what, "a refusal writes, or nothing is written");
+  need(words[0] == (number == 0 ? 4u : 0u), what, "another number of values than expected");
+  if (number == 0)
+    need(got->features == words[1] && got->owner == words[2] && got->group == words[3] && got->mode == words[4], what,
+         "features, owner, group or mode");
 }
 
 /* ---- the cases */
@@ -391,13 +440,192 @@ static void try_failures(void) {
   read_of(1, 0, 0, 1, 4);
 }
 
+/* values of which no two are the same, so that one in another's place shows */
+static void make_values(void) {
+  unsigned i;
+  memset(&values, 0, sizeof(values));
+  strcpy(values.label, "drawer 7");
+  values.label_bytes = 8;
+  for (i = 0; i < 16; i++)
+    values.uuid[i] = (uint8_t)(0xE0 + i);
+  values.features = 15;
+  values.owner = 1001;
+  values.group = 1002;
+  values.mode = 0604;
+}
+
+/* the block of the values as they are made up now, which are then made anew; zone 0 is empty */
+static void format_as(const char *what, uint64_t expected) {
+  make_zone(record, 0, 2, 1, CAPACITY, 0);
+  format_of(what, BLOCK, 4096, 64, 1, expected);
+  make_values();
+}
+
+static void try_refused_formats(void) {
+  make_values();
+  make_zone(record, 0, 2, 1, CAPACITY, 0);
+  format_of("format's block", 1024, 4096, 64, 1, 20);
+  format_of("lent block's length", BLOCK, 4095, 64, 1, 21);
+  values.features = 16;
+  format_as("format's features", 24);
+  values.owner = 0xFFFFFFFFu;
+  format_as("format's owner", 25);
+  values.group = 0xFFFFFFFFu;
+  format_as("format's group", 25);
+  values.mode = 01000;
+  format_as("format's mode", 33);
+  values.label_bytes = 65;
+  format_as("label's length", 34);
+  values.label_bytes = (size_t)-1;
+  format_as("label longer than all memory", 34);
+}
+
+/* 29 has two values here too, and the first is always 0 */
+static void refuse_first_zone(const char *what, size_t bytes, uint64_t reason) {
+  format_of(what, BLOCK, 4096, bytes, 1, 29);
+  need(words[1] == 0 && words[2] == reason, what, "another zone or reason than expected");
+  format_reasons[words[2]]++;
+}
+
+static void try_bad_first_zones(void) {
+  static const struct bad_field fields[] = {
+      {"first zone's start", 0, 0, 8, 8, 1},
+      {"first zone's length", 0, 8, 8, LENGTH - 4, 2},
+      {"first zone's capacity", 0, 32, 8, LENGTH + 8, 3},
+      {"first zone's end", 0, 8, 8, ((uint64_t)1 << 40) + 8, 4},
+      {"first zone's type", 0, 24, 1, 4, 5},
+      {"first zone's condition", 0, 25, 1, 0, 6},
+      {"first zone's pointer", 0, 16, 8, 1, 7},
+  };
+  size_t i;
+  for (i = 0; i < sizeof(fields) / sizeof(fields[0]); i++) {
+    const struct bad_field *f = &fields[i];
+    make_zone(record, f->zone, 2, 1, CAPACITY, 0);
+    put(record + f->at, f->value, f->count);
+    refuse_first_zone(f->what, 64, f->reason);
+  }
+  make_zone(record, 0, 2, 1, CAPACITY, 0);
+  refuse_first_zone("first zone's record is short", 63, 0);
+  refuse_first_zone("first zone's record is long", 65, 0);
+}
+
+/* A first zone, and whether it must be finished. */
+struct first_zone {
+  const char *what;
+  unsigned type, condition, capacity, written;
+  uint32_t given;
+  uint64_t finish;
+};
+
+static void try_finishing(void) {
+  static const struct first_zone zones[] = {
+      {"conventional", 1, 0, LENGTH, 0, 1, 0},
+      {"empty", 2, 1, CAPACITY, 0, 1, 1},
+      {"open", 2, 3, CAPACITY, 8, 1, 1},
+      {"closed, a block below capacity", 3, 4, CAPACITY, CAPACITY - 8, 1, 1},
+      {"open, at capacity", 2, 2, CAPACITY, CAPACITY, 1, 0},
+      {"open, at a capacity that is given otherwise", 2, 2, CAPACITY, CAPACITY, 2, 0},
+      {"open, at a capacity that is not given", 2, 2, CAPACITY, CAPACITY, 0, 1},
+      {"full", 2, 14, CAPACITY, 0, 1, 0},
+      {"read-only", 2, 13, CAPACITY, 0, 1, 0},
+      {"offline", 3, 15, CAPACITY, 0, 1, 0},
+  };
+  size_t i;
+  for (i = 0; i < sizeof(zones) / sizeof(zones[0]); i++) {
+    const struct first_zone *z = &zones[i];
+    make_zone(record, 0, z->type, z->condition, z->capacity, z->written);
+    format_of(z->what, BLOCK, 4096, 64, z->given, 0);
+    need(words[1] == z->finish, z->what, "finish otherwise than expected");
+  }
+}
+
+/* the mount of a block with one feature alone: it uses that one's value, and of the others what a mount has without them */
+static void mount_with_feature(const char *what, uint64_t feature, uint64_t cnv_files, uint64_t owner, uint64_t group, uint64_t mode) {
+  values.features = feature;
+  format_as(what, 0);
+  memcpy(super_block, volume_made, sizeof(super_block));
+  mount_as(what, "", 0);
+  need(words[1] == cnv_files, what, "another number of cnv files than expected");
+  need(mount_words[ZONEFS_MOUNT_OWNER] == owner, what, "another owner than expected");
+  need(mount_words[ZONEFS_MOUNT_GROUP] == group, what, "another group than expected");
+  need(mount_words[ZONEFS_MOUNT_MODE] == mode, what, "another mode than expected");
+  need(mount_words[ZONEFS_MOUNT_UUID_LOW] == 0xE7E6E5E4E3E2E1E0u, what, "another uuid than expected");
+  need(mount_words[ZONEFS_MOUNT_UUID_HIGH] == 0xEFEEEDECEBEAE9E8u, what, "another uuid than expected");
+}
+
+static void try_features(void) {
+  mount_with_feature("no feature", 0, 2, 0, 0, 0640);
+  mount_with_feature("aggregate", ZONEFS_FEATURE_AGGREGATE, 1, 0, 0, 0640);
+  mount_with_feature("uid", ZONEFS_FEATURE_UID, 2, 1001, 0, 0640);
+  mount_with_feature("gid", ZONEFS_FEATURE_GID, 2, 0, 1002, 0640);
+  mount_with_feature("perm", ZONEFS_FEATURE_PERM, 2, 0, 0, 0604);
+}
+
+/* a label of bytes, formatted and read back; the struct gives it without the zeros at its end */
+static void read_back(const char *what, const char *label, size_t bytes, size_t without_zeros) {
+  struct zonefs_volume_super got;
+  uint8_t first[4096];
+  memcpy(values.label, label, bytes);
+  values.label_bytes = bytes;
+  format_as(what, 0);
+  memcpy(first, volume_made, sizeof(first));
+  memcpy(super_block, first, sizeof(super_block));
+  fields_of(what, 4096, 0, &got);
+  need(got.label_bytes == without_zeros && memcmp(got.label, label, without_zeros) == 0, what, "another label than expected");
+  need(got.label[64] == 0, what, "the label does not end in a zero");
+  need(got.features == 15 && got.owner == 1001 && got.group == 1002 && got.mode == 0604, what, "another value than expected");
+  values = got;
+  format_as(what, 0);
+  need(memcmp(volume_made, first, sizeof(first)) == 0, what, "formatted again it has other bytes");
+}
+
+static void try_labels(void) {
+  static const char longest[] = "0123456789abcdef0123456789abcdef0123456789abcdef0123456789abcdef";
+  read_back("no label", "", 0, 0);
+  read_back("label", "drawer 7", 8, 8);
+  read_back("label with its zero", "drawer 7", 9, 8);
+  read_back("label with a zero inside", "a\0b", 3, 3);
+  read_back("longest label", longest, 64, 64);
+}
+
+/* of the super block as it is made up now, which is then made anew */
+static void fields_as(const char *what, uint64_t expected) {
+  struct zonefs_volume_super got;
+  fields_of(what, 4096, expected, &got);
+  make_super_block();
+}
+
+static void try_refused_fields(void) {
+  struct zonefs_volume_super got;
+  make_super_block();
+  fields_of("length to read", 4095, 21, &got);
+  super_block[3] = 0;
+  fields_as("magic to read", 22);
+  super_block[7] ^= 1;
+  fields_as("checksum to read", 23);
+  super_block[95] = 1;
+  sign();
+  fields_as("features to read", 24);
+  super_block[88] = 4;
+  put(super_block + 100, 0xFFFFFFFFu, 4);
+  sign();
+  fields_as("group to read", 25);
+  super_block[88] = 8;
+  put(super_block + 104, 01000, 4);
+  sign();
+  fields_as("mode to read", 33);
+  super_block[108] = 1;
+  sign();
+  fields_as("tail to read", 26);
+}
+
 /* each number was seen and has a text of its own; 11 is none, and stands here for those that the library doesn't have */
 static void check_numbers(void) {
   const char *none = zonefs_volume_refusal_text(11);
   unsigned i, j;
   for (i = 0; i < sizeof(seen) / sizeof(seen[0]); i++) {
     const char *text = zonefs_volume_refusal_text(i);
-    int known = i <= 10 || (i >= 20 && i <= 30) || i == 33;
+    int known = i <= 10 || (i >= 20 && i <= 30) || i == 33 || i == 34;
     need((seen[i] > 0) == known, "numbers", "one of them was not seen");
     need((strcmp(text, none) != 0) == known, "texts", "a number has none");
     for (j = 0; known && j < i; j++)
@@ -417,6 +645,7 @@ static void check_reasons(void) {
     const char *text = zonefs_volume_reason_text(i);
     need((zone_reasons[i] > 0) == (i >= 1 && i <= 7), "reasons", "one of a zone was not seen");
     need((record_reasons[i] > 0) == (i != 1), "reasons", "one of a record was not seen");
+    need((format_reasons[i] > 0) == (i <= 7), "reasons", "one of the formatter was not seen");
     need(strcmp(text, none) != 0, "texts", "a reason has none");
     for (j = 0; j < i; j++)
       need(strcmp(text, zonefs_volume_reason_text(j)) != 0, "texts", "two reasons have the same");
@@ -440,6 +669,12 @@ int main(void) {
   try_bad_zones();
   try_calls();
   try_failures();
+  try_refused_formats();
+  try_bad_first_zones();
+  try_finishing();
+  try_features();
+  try_labels();
+  try_refused_fields();
   check_numbers();
   check_reasons();
   printf("volume in " LANGUAGE ": %u answers, as the plain functions give them\n", compared);

@@ -5,6 +5,7 @@ use std::hint::black_box;
 use std::time::Duration;
 
 use reference::player::calls::{Call, Request};
+use reference::player::format::{format, FormatInput};
 use reference::player::mount::{mount, Input};
 use reference::player::types::{FileKind, Row, Volume, MAX_FILES};
 use zonefs::words::{self, ANSWER_WORDS, MOUNT_WORDS, ROW_WORDS};
@@ -200,6 +201,39 @@ fn mounts(input: &Input, checksum: (f64, f64)) {
     line("the same less each one's checksum", library, other, "");
 }
 
+/// A super block in full use, made over other bytes, on a disk whose zone 0 is the volume's.
+fn formats(input: &Input) {
+    const TURNS: u64 = 1_000;
+    let (label, uuid, record) = (b"drawer 7", *b"0123456789abcdef", &input.report[16..80]);
+    let (features, owner, group, mode, given) = (15, 1000, 100, 0o600, false);
+    let wanted = FormatInput { block: BLOCK, label, uuid, features, owner, group, mode, record, given };
+    let mut made = [[0xA5; 4096]; 2];
+    let [ours, theirs] = &mut made;
+    let mut answer = [0; ANSWER_WORDS];
+    let mut library = || {
+        time(TURNS, |_| {
+            let number = words::format(
+                BLOCK,
+                ours,
+                label,
+                &uuid,
+                features,
+                owner,
+                group,
+                mode,
+                black_box(record),
+                0,
+                &mut answer,
+            );
+            assert_eq!(black_box(number), 0);
+        })
+    };
+    let mut other = || time(TURNS, |_| assert_eq!(black_box(format(black_box(&wanted), theirs)), Ok(false)));
+    let times = medians(TURNS, &mut [&mut library, &mut other]);
+    assert!(made[0] == made[1], "both make the same bytes");
+    line("a super block made, beside the reference", times[0], times[1], "");
+}
+
 fn appends(input: &Input) {
     const TURNS: u64 = 20_000;
     let mut lent = Lent::new();
@@ -224,5 +258,6 @@ fn main() {
     let checksum = checksums();
     let input = input();
     mounts(&input, checksum);
+    formats(&input);
     appends(&input);
 }

@@ -4,7 +4,7 @@
 
 use std::error::Error;
 
-use zonefs::{checksum, words, Command, FileId, Reason, Refusal, Reply, Source, Volume, EMPTY_ROW};
+use zonefs::{format, words, Command, FileId, Format, Reason, Refusal, Reply, Source, Volume, EMPTY_ROW};
 
 const BLOCK: u64 = 4096;
 const SECTOR: u64 = 512;
@@ -21,13 +21,22 @@ struct Disk {
 impl Disk {
     const CONVENTIONAL: u64 = 3;
 
-    fn super_block() -> [u8; words::SUPER_BYTES] {
+    /// As a formatter leaves it. Zone 0 is conventional, so it isn't to be finished.
+    fn super_block(&self) -> Result<[u8; words::SUPER_BYTES], Refusal> {
+        let wanted = Format {
+            block: BLOCK,
+            label: b"recover",
+            uuid: [0; words::UUID_BYTES],
+            features: 0,
+            owner: 0,
+            group: 0,
+            mode: 0,
+            record: &self.record(0),
+            capacity_given: true,
+        };
         let mut bytes = [0; words::SUPER_BYTES];
-        put(&mut bytes, 0, &0x5A4F_4653_u32.to_le_bytes());
-        // The checksum is taken while its own field is still zero.
-        let sum = checksum(&bytes);
-        put(&mut bytes, 4, &sum.to_le_bytes());
-        bytes
+        assert!(!format(&wanted, &mut bytes)?.finish, "zone 0 is conventional");
+        Ok(bytes)
     }
 
     fn report(&self) -> Vec<u8> {
@@ -79,7 +88,7 @@ fn put(bytes: &mut [u8], at: usize, value: &[u8]) {
 type Mounted = Volume<[zonefs::RowWords; 4]>;
 
 fn mount(disk: &Disk) -> Result<Mounted, Refusal> {
-    let (super_block, report) = (Disk::super_block(), disk.report());
+    let (super_block, report) = (disk.super_block()?, disk.report());
     let source =
         Source { block: BLOCK, super_block: &super_block, options: b"errors=repair", report: &report };
     Volume::mount(&source, [EMPTY_ROW; 4], [EMPTY_ROW; 4])

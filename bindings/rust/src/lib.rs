@@ -3,17 +3,14 @@
 //! and then says how that went.
 //!
 //! A file is a zone, or a run of zones: `cnv/0`, `cnv/1`, .. in conventional zones, `seq/0`, .. in sequential ones, which are written
-//! at their end only. [`Volume`] has the calls; [`Refusal`] is every way to say no, with the scope paper's numbers, and [`Reason`] what is
-//! bad of a zone; [`words`] has the functions of `include/zonefs.h` as they are, on slices.
+//! at their end only. [`format`](format()) makes a disk's super block; [`Volume`] has the calls; [`Refusal`] is every way to say no, with the
+//! scope paper's numbers, and [`Reason`] what is bad of a zone; [`words`] has the functions of `include/zonefs.h` as they are, on slices.
 //!
 //! ```
-//! use zonefs::{FileId, Refusal, Reply, Source, Volume, EMPTY_ROW};
+//! use zonefs::words::FEATURE_PERM;
+//! use zonefs::{format, FileId, Format, Refusal, Reply, Source, Volume, EMPTY_ROW};
 //!
 //! # // A disk of two zones of 64 sectors: one conventional, one sequential and empty.
-//! # let mut super_block = [0; 4096];
-//! # super_block[..4].copy_from_slice(&0x5A4F_4653_u32.to_le_bytes());
-//! # let sum = zonefs::checksum(&super_block);
-//! # super_block[4..8].copy_from_slice(&sum.to_le_bytes());
 //! # let mut report = [0; 16 + 2 * 64];
 //! # report[8] = 2;
 //! # report[16 + 8] = 64;
@@ -24,7 +21,23 @@
 //! # let mut record = [0; 64];
 //! # record.copy_from_slice(zone);
 //! # (record[16], record[25]) = (72, 2);
-//! // Each table has room for four files. The disk's first bytes and its zone report are read by the caller.
+//! // A new disk gets a super block. The zone report is read by the caller: a header of 16 bytes, and 64 for each zone, zone 0 first.
+//! let mut super_block = [0; 4096];
+//! let wanted = Format {
+//!     block: 4096,
+//!     label: b"drawer 7",
+//!     uuid: *b"0123456789abcdef",
+//!     features: FEATURE_PERM,
+//!     owner: 0,
+//!     group: 0,
+//!     mode: 0o600,
+//!     record: &report[16..80],
+//!     capacity_given: false,
+//! };
+//! // Zone 0 is conventional: it is not to be finished, and the block is written to the disk's first 4,096 bytes.
+//! assert!(!format(&wanted, &mut super_block)?.finish);
+//!
+//! // Each table has room for four files. The disk's first bytes, too, are read by the caller.
 //! let (mut cnv, mut seq) = ([EMPTY_ROW; 4], [EMPTY_ROW; 4]);
 //! let source = Source { block: 4096, super_block: &super_block, options: b"errors=repair", report: &report };
 //! let mut volume = Volume::mount(&source, &mut cnv, &mut seq)?;
@@ -50,7 +63,9 @@
 #![deny(missing_docs)]
 #![deny(unsafe_op_in_unsafe_fn)]
 
+mod answer;
 mod codes;
+mod format;
 mod reason;
 mod refusal;
 mod values;
@@ -61,6 +76,7 @@ pub mod words;
 mod tests;
 
 pub use codes::{Access, CommandKind, Condition, FileKind, Policy};
+pub use format::{format, super_fields, Format, Formatted, SuperFields};
 pub use reason::Reason;
 pub use refusal::Refusal;
 pub use values::{Command, File, FileId, MountValue, Reply, Source};

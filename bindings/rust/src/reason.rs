@@ -6,8 +6,8 @@ use core::fmt;
 macro_rules! reasons {
     ($($(#[$about:meta])* $code:literal $case:ident, $header:ident, $text:literal;)*) => {
         /// What is bad of a zone, by [`Refusal::BadZone`](crate::Refusal::BadZone), or of a record, by
-        /// [`Refusal::BadRecord`](crate::Refusal::BadRecord): the first of these. A zone of a report is tested for 1 to 7, and the
-        /// record of a failure, which may start anywhere, for 0 and 2 to 9.
+        /// [`Refusal::BadRecord`](crate::Refusal::BadRecord): the first of these. A zone of a report is tested for 1 to 7, zone 0's record for
+        /// [`format`](crate::format()) for 0 to 7, and the record of a failure, which may start anywhere, for 0 and 2 to 9.
         #[derive(Clone, Copy, Debug, PartialEq, Eq, Hash)]
         #[non_exhaustive]
         pub enum Reason {

@@ -96,6 +96,7 @@ refusals! {
     }, BAD_ZONE, "zone {zone} of the report is bad: {reason}";
     30 TooFewRows, TOO_FEW_ROWS, "a table has too few rows for the files";
     33 SuperPerm, SUPER_PERM, "the super block's perm is in use and above 0o777";
+    34 LabelLength, LABEL_LENGTH, "the label is longer than 64 bytes";
 }
 
 impl core::error::Error for Refusal {}

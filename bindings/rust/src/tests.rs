@@ -4,6 +4,7 @@ use std::collections::BTreeMap;
 
 use crate::words::{ANSWER_WORDS, CONSTANTS, FUNCTIONS, MOUNT_WORDS};
 use crate::{codes, reason, refusal};
+use crate::{format, super_fields, Format, Formatted, SuperFields};
 use crate::{FileId, FileKind, MountValue, Policy, Reason, Refusal};
 
 /// The header without its comments.
@@ -33,13 +34,14 @@ fn constants_are_the_headers() {
     for (name, value) in &theirs {
         assert_eq!(ours.get(name.as_str()), Some(value), "ZONEFS_{name}");
     }
-    assert!(theirs.len() > 60, "only {} constants were found", theirs.len());
+    assert!(theirs.len() > 100, "only {} constants were found", theirs.len());
 }
 
 /// A type of the header as Rust writes it.
 fn rust_type(c_type: &str) -> &'static str {
     match c_type.trim() {
         "const uint8_t *" => "*const u8",
+        "uint8_t *" => "*mut u8",
         "const uint64_t *" => "*const u64",
         "uint64_t *" => "*mut u64",
         "uint64_t" => "u64",
@@ -78,6 +80,7 @@ fn archive_parameters(parameter: &str) -> Vec<String> {
     let (name, kind) = plain.split_once(':').expect("a name and a type");
     let pointer = match kind {
         "&[u8]" => "*const u8",
+        "&mut[u8]" => "*mut u8",
         "&[u64]" => "*const u64",
         "&mut[u64]" => "*mut u64",
         number => return vec![format!("{name}: {number}")],
@@ -96,7 +99,7 @@ fn functions_are_the_headers() {
         })
         .collect();
     assert_eq!(ours, header_functions());
-    assert!(ours.len() >= 10, "only {} functions were found", ours.len());
+    assert!(ours.len() >= 12, "only {} functions were found", ours.len());
 }
 
 #[test]
@@ -104,7 +107,7 @@ fn refusals_have_the_papers_numbers_and_keep_their_values() {
     let answer = [2, 77, 6, 0, 0, 0, 0];
     let numbers: Vec<u64> =
         (0..=100).filter(|&number| Refusal::from_answer(number, &answer).is_some()).collect();
-    assert_eq!(numbers, [1, 2, 3, 4, 5, 6, 7, 8, 9, 10, 20, 21, 22, 23, 24, 25, 26, 27, 28, 29, 30, 33]);
+    assert_eq!(numbers, [1, 2, 3, 4, 5, 6, 7, 8, 9, 10, 20, 21, 22, 23, 24, 25, 26, 27, 28, 29, 30, 33, 34]);
     for number in numbers {
         assert_eq!(Refusal::from_answer(number, &answer).map(Refusal::number), Some(number));
     }
@@ -123,6 +126,7 @@ fn refusals_have_the_papers_numbers_and_keep_their_values() {
     );
     assert_eq!(Refusal::from_answer(30, &[0; ANSWER_WORDS]), Some(Refusal::TooFewRows));
     assert_eq!(Refusal::from_answer(33, &[0; ANSWER_WORDS]), Some(Refusal::SuperPerm));
+    assert_eq!(Refusal::from_answer(34, &[0; ANSWER_WORDS]), Some(Refusal::LabelLength));
 }
 
 #[test]
@@ -139,6 +143,7 @@ fn refusals_are_errors_with_a_text() {
         "7: the disk failed the command, and the file has 8192 bytes now"
     );
     assert_eq!(Refusal::Busy.to_string(), "2: a command is outstanding");
+    assert_eq!(Refusal::LabelLength.to_string(), "34: the label is longer than 64 bytes");
 }
 
 /// A reason that has no name here keeps its code, so that nothing of an answer is lost.
@@ -181,4 +186,98 @@ fn mount_values() {
         wrong[at] -= 1;
         assert!(MountValue::from_words(&wrong).is_some(), "word {at}");
     }
+}
+
+/// A sequential zone of 64 sectors at the start of the disk: condition and pointer.
+fn first_zone(condition: u8, pointer: u8) -> [u8; 64] {
+    let mut record = [0; 64];
+    (record[8], record[16], record[24], record[25]) = (64, pointer, 2, condition);
+    record
+}
+
+/// Values of which no two are the same, with all features.
+fn wanted(record: &[u8]) -> Format<'_> {
+    Format {
+        block: 4096,
+        label: b"drawer 7",
+        uuid: [0xE0, 1, 2, 3, 4, 5, 6, 7, 8, 9, 10, 11, 12, 13, 14, 0xEF],
+        features: 15,
+        owner: 0x0102_0304,
+        group: 0x0506_0708,
+        mode: 0o604,
+        record,
+        capacity_given: false,
+    }
+}
+
+/// The layout is the scope paper's, put together here by its offsets.
+#[test]
+fn formatted_blocks_have_the_papers_layout() {
+    let record = first_zone(1, 0);
+    let mut super_block = [0xA5; 4096];
+    assert_eq!(format(&wanted(&record), &mut super_block), Ok(Formatted { finish: true }));
+    let mut expected = [0; 4096];
+    let mut put = |at: usize, bytes: &[u8]| expected[at..at + bytes.len()].copy_from_slice(bytes);
+    put(0, b"SFOZ");
+    put(8, b"drawer 7");
+    put(72, &[0xE0, 1, 2, 3, 4, 5, 6, 7, 8, 9, 10, 11, 12, 13, 14, 0xEF]);
+    put(88, &[15, 0, 0, 0, 0, 0, 0, 0]);
+    put(96, &[4, 3, 2, 1]);
+    put(100, &[8, 7, 6, 5]);
+    put(104, &[0o204, 1, 0, 0]); // 0604 is 256 and 0204
+    let sum = crate::checksum(&expected);
+    expected[4..8].copy_from_slice(&sum.to_le_bytes());
+    assert_eq!(super_block, expected);
+}
+
+#[test]
+fn fields_are_those_of_the_format() {
+    let record = first_zone(14, 9);
+    let Format { uuid, features, owner, group, mode, .. } = wanted(&record);
+    let mut label = [0; 64];
+    label[..8].copy_from_slice(b"drawer 7");
+    let mut super_block = [0xA5; 4096];
+    assert_eq!(format(&wanted(&record), &mut super_block), Ok(Formatted { finish: false }));
+    let fields = SuperFields { label, uuid, features, owner, group, mode };
+    assert_eq!(super_fields(&super_block), Ok(fields));
+    assert_eq!(fields.label_text(), b"drawer 7");
+    super_block[4095] = 1;
+    assert_eq!(super_fields(&super_block), Err(Refusal::SuperChecksum));
+}
+
+/// A label may hold zeros, and only those at its end go.
+#[test]
+fn labels_lose_only_the_zeros_at_their_end() {
+    let fields =
+        |label: [u8; 64]| SuperFields { label, uuid: [0; 16], features: 0, owner: 0, group: 0, mode: 0 };
+    assert_eq!(fields([0; 64]).label_text(), b"");
+    assert_eq!(fields([b'x'; 64]).label_text(), [b'x'; 64]);
+    let mut label = [0; 64];
+    label[2] = b'x';
+    assert_eq!(fields(label).label_text(), b"\0\0x");
+}
+
+#[test]
+fn refused_formats_leave_the_block() {
+    let record = first_zone(1, 8);
+    let good = wanted(&record);
+    let (long, bad) = ([0; 65], first_zone(1, 7));
+    let bad_zone = |reason: Reason| Refusal::BadZone { zone: 0, reason };
+    let cases = [
+        (Format { block: 1024, ..good }, Refusal::BadBlock),
+        (Format { features: 16, ..good }, Refusal::SuperFeatures),
+        (Format { owner: u32::MAX, ..good }, Refusal::SuperOwner),
+        (Format { group: u32::MAX, ..good }, Refusal::SuperOwner),
+        (Format { mode: 0o1000, ..good }, Refusal::SuperPerm),
+        (Format { label: &long, ..good }, Refusal::LabelLength),
+        (Format { record: &bad, ..good }, bad_zone(Reason::Pointer)),
+        (Format { record: &record[1..], ..good }, bad_zone(Reason::NoRecord)),
+        (Format { capacity_given: true, ..good }, bad_zone(Reason::Capacity)),
+    ];
+    for (wanted, refusal) in cases {
+        let mut super_block = [0xA5; 4096];
+        assert_eq!(format(&wanted, &mut super_block), Err(refusal));
+        assert_eq!(super_block, [0xA5; 4096], "{refusal}");
+    }
+    assert_eq!(format(&good, &mut [0; 4095]), Err(Refusal::SuperLength));
 }

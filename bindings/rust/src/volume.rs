@@ -1,5 +1,6 @@
 //! A mounted volume, with types.
 
+use crate::answer::{ask, promised};
 use crate::codes::{Access, Condition, FileKind};
 use crate::refusal::Refusal;
 use crate::values::{Command, File, FileId, MountValue, Reply, Source};
@@ -170,18 +171,4 @@ fn words_of(table: &impl AsRef<[RowWords]>) -> &[u64] {
 
 fn words_mut(table: &mut impl AsMut<[RowWords]>) -> &mut [u64] {
     table.as_mut().as_flattened_mut()
-}
-
-/// Lends answer words, and gives them back unless the number is a refusal's.
-fn ask(function: impl FnOnce(&mut [u64]) -> u64) -> Result<[u64; ANSWER_WORDS], Refusal> {
-    let mut answer = [0; ANSWER_WORDS];
-    match function(&mut answer) {
-        words::OK => Ok(answer),
-        number => Err(promised(Refusal::from_answer(number, &answer))),
-    }
-}
-
-/// What the library's contract promises is there. It could be missing only with another archive than the header's.
-fn promised<T>(value: Option<T>) -> T {
-    value.expect("the archive answers as include/zonefs.h says")
 }

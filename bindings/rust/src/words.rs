@@ -2,11 +2,11 @@
 //!
 //! Nothing is demanded of what the slices hold, or of their lengths: each function answers for all of them. It returns
 //! 0 ([`OK`]) or the number of a [`Refusal`](crate::Refusal), and writes what it answers beside the number into `answer`: the number of
-//! values first, then the values, then zeros. Where mount words or answer words are too short, or the mount words hold no mount
-//! value, the number is 10 and nothing is written.
+//! values first, then the values, then zeros. Where mount words or answer words are too short, the mount words hold no mount
+//! value, or a uuid or the room for a label has another length than that has, the number is 10 and nothing is written.
 //!
-//! [`Volume`](crate::Volume) has the same functions with types; most programs want that. Codes in words are those of the
-//! enums [`FileKind`](crate::FileKind), [`CommandKind`](crate::CommandKind), [`Condition`](crate::Condition),
+//! [`Volume`](crate::Volume), [`format`](crate::format()) and [`super_fields`](crate::super_fields()) are the same functions with types; most
+//! programs want those. Codes in words are those of the enums [`FileKind`](crate::FileKind), [`CommandKind`](crate::CommandKind), [`Condition`](crate::Condition),
 //! [`Access`](crate::Access), [`Policy`](crate::Policy) and [`Reason`](crate::Reason).
 
 /// A slice as C takes it: a pointer, and the number of elements behind it.
@@ -66,6 +66,32 @@ macro_rules! functions {
 }
 
 functions! {
+    /// Makes a super block: writes all 4,096 bytes of `superblock`. `record` is zone 0's, the first one of a report, and `capacity_given`
+    /// is 0 where it states no capacity. Answers 0 with 1 where zone 0 must first be finished, else 0; or, in this order, 10 (a uuid that is not
+    /// [`UUID_BYTES`] long), 20, 21, 24, 25, 33, 34, 29 with zone 0 and its reason. Refused, `superblock` is as it was.
+    fn format = zonefs_format(
+        block: u64,
+        [superblock: &mut [u8]],
+        [label: &[u8]],
+        [uuid: &[u8]],
+        features: u64,
+        owner: u32,
+        group: u32,
+        mode: u32,
+        [record: &[u8]],
+        capacity_given: u32,
+        [answer: &mut [u64]],
+    ) -> u64;
+
+    /// Reads the values of a super block: writes [`LABEL_BYTES`] of `label` and [`UUID_BYTES`] of `uuid`, which have exactly that length. Answers 0
+    /// with features, owner, group and mode; or 10 (another length), 21 to 25, 33, 26, in this order, and both are as they were.
+    fn super_fields = zonefs_super_fields(
+        [superblock: &[u8]],
+        [label: &mut [u8]],
+        [uuid: &mut [u8]],
+        [answer: &mut [u64]],
+    ) -> u64;
+
     /// Mounts: fills the front of both tables with a row for each file, and the mount words. Answers 0 with the numbers of
     /// cnv and of seq files; or 10, 20 to 30, 33; 29 with the lowest number of a bad zone and its reason. Refused by 20 to 30 or 33, the
     /// tables are as they were and the mount words are all 0.
@@ -165,7 +191,7 @@ functions! {
     ) -> u64;
 
     /// The checksum of bytes: reflected CRC-32, polynomial `0xEDB88320`, start all ones, no final inversion. A super block's is
-    /// that of its 4,096 bytes with the checksum field, bytes 4 to 7, zero.
+    /// that of its 4,096 bytes with the checksum field, bytes 4 to 7, zero; [`format`] makes a whole block, with its checksum.
     fn checksum = zonefs_checksum([bytes: &[u8]]) -> u32;
 }
 
@@ -193,12 +219,25 @@ constants! {
     MOST_FILES: usize = 1022;
     /// The bytes of a super block.
     SUPER_BYTES: usize = 4096;
+    /// The bytes of the label in a super block.
+    LABEL_BYTES: usize = 64;
+    /// The bytes of the uuid in a super block.
+    UUID_BYTES: usize = 16;
     /// The bytes of a report's header.
     HEADER_BYTES: usize = 16;
     /// The bytes of a zone record.
     ZONE_BYTES: usize = 64;
     /// The most zones of a report.
     MOST_ZONES: usize = 1023;
+
+    /// A super block's features: each run of neighbouring conventional zones is one file.
+    FEATURE_AGGREGATE: u64 = 1;
+    /// A super block's features: the owner is in use.
+    FEATURE_UID: u64 = 2;
+    /// A super block's features: the group is in use.
+    FEATURE_GID: u64 = 4;
+    /// A super block's features: the mode is in use.
+    FEATURE_PERM: u64 = 8;
 
     /// A report: where it begins, 8 bytes, 0. Numbers in reports and records are little-endian, positions in sectors.
     REPORT_SECTOR: usize = 0;
@@ -239,10 +278,20 @@ constants! {
     ANSWER_CNV_FILES: usize = 1;
     /// A mount: how many seq files there are.
     ANSWER_SEQ_FILES: usize = 2;
-    /// A mount refused by 29: the lowest number of a bad zone.
+    /// A mount refused by 29: the lowest number of a bad zone. A super block not made because of 29: 0.
     ANSWER_ZONE: usize = 1;
-    /// A mount refused by 29: the reason.
+    /// A mount refused by 29, or a super block not made because of it: the reason.
     ANSWER_ZONE_REASON: usize = 2;
+    /// A super block made: 1 where zone 0 must first be finished, else 0.
+    ANSWER_FINISH: usize = 1;
+    /// A super block read: its features.
+    ANSWER_SUPER_FEATURES: usize = 1;
+    /// A super block read: its owner.
+    ANSWER_SUPER_OWNER: usize = 2;
+    /// A super block read: its group.
+    ANSWER_SUPER_GROUP: usize = 3;
+    /// A super block read: its mode.
+    ANSWER_SUPER_MODE: usize = 4;
     /// A name found: the file's kind.
     ANSWER_KIND: usize = 1;
     /// A name found: the file's number.

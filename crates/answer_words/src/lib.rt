@@ -1,11 +1,13 @@
 // An answer in words: how many values, and six words with the values in front and zeros after them.
 ghost use mathlib.Core.Path.{_≡_};
+ghost use mathlib.Core.List.{[], _∷_};
 ghost use Prim.Native.Nat.{_≤_};
 ghost use lib.ListN.{length};
-ghost use Rattle.types.specs.Numbers.{listed, refusalValues, answerValues, mountValues, findValues, showValues};
+ghost use Rattle.types.specs.Numbers.{listed, refusalValues, answerValues, mountValues, findValues, showValues, formatValues};
 ghost use Rattle.answer_words.specs.Answers.{answerLength, valuesOf, valueWords, written};
 use types::Answer;
 use types::FindAnswer;
+use types::FormatAnswer;
 use types::MountAnswer;
 use types::Refusal;
 use types::ShowAnswer;
@@ -49,7 +51,7 @@ fn listed(v: Values) -> AnswerWords
     }
 }
 
-fn refusal_values(x: Refusal) -> AnswerWords
+pub fn refusal_values(x: Refusal) -> AnswerWords
     ensures { λ r. ⌜ r ≡ valuesOf (refusalValues x) ⌝ }
 {
     let code = types::answers::refusal_code(x);
@@ -113,6 +115,29 @@ pub fn show_values(a: ShowAnswer) -> AnswerWords
                 sixth: mode as u64,
             }
         }
+    }
+}
+
+pub fn format_values(a: FormatAnswer) -> AnswerWords
+    ensures { λ r. ⌜ r ≡ valuesOf (formatValues a) ⌝ }
+{
+    match a {
+        FormatAnswer::Refused(x) => refusal_values(x),
+        FormatAnswer::Formatted(finish) => up_to_three(1, types::codes::flag_code(finish), 0, 0),
+    }
+}
+
+pub fn four_values(first: u64, second: u64, third: u64, fourth: u64) -> AnswerWords
+    ensures { λ r. ⌜ r ≡ valuesOf (first ∷ second ∷ third ∷ fourth ∷ []) ⌝ }
+{
+    AnswerWords {
+        count: 4,
+        first,
+        second,
+        third,
+        fourth,
+        fifth: 0,
+        sixth: 0,
     }
 }
 

@@ -1,4 +1,4 @@
--- What each function of the C interface returns, and leaves in the words that it was lent.
+-- What each function of the C interface returns, and leaves in the words that it was lent; those of the formatter are in `format_words`.
 use Prim.Native.Nat.{ℕ}
 use mathlib.Core.List.{List}
 use mathlib.Core.Bool.{Bool, cond, _&&_}

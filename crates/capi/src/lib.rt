@@ -14,6 +14,7 @@ ghost use Rattle.answer_words.specs.Answers.{answerLength, answerWords, written
 ghost use Rattle.engine.specs.Engine.{Input};
 ghost use Rattle.capi.specs.Interface.{usable, stepWords, toldFound, findWords, toldShown, showWords, roomy, toldMounted, mountGiven};
 ghost use Rattle.crc32.specs.Crc.{crc32};
+ghost use Rattle.format_words.specs.Words.{formatWords, fieldsWords};
 use types::Answer;
 use types::Call;
 use types::FindAnswer;
@@ -270,6 +271,52 @@ pub extern "C" fn zonefs_show(
     }
     let m = mount_words::mount_from(w);
     tell_shown(a, inspect::show_by(m, cnv, seq, kind as u64, number))
+}
+
+// Writes a super block into lent bytes, and says whether zone 0 must first be finished. `given` (any number but 0) says that the record of zone 0
+// states a capacity.
+#[no_mangle]
+pub extern "C" fn zonefs_format(
+    block: u64,
+    superblock: &mut [u8],
+    label: &[u8],
+    uuid: &[u8],
+    features: u64,
+    owner: u32,
+    group: u32,
+    mode: u32,
+    bytes: &[u8],
+    given: u32,
+    a: &mut [u64],
+) -> u64
+    ensures { λ r. ⌜ formatWords block (now (superblock .entry)) (record { label = now (label .entry); uuid = now (uuid .entry); features = features; owner = owner; group = group; mode = mode }) (not (eqb given 0)) (now (bytes .entry)) (now (a .entry)) ≡ record { number = r; block = now (superblock .exit); answer = now (a .exit) } ⌝ }
+{
+    format_words::format(
+        block,
+        superblock,
+        label,
+        uuid,
+        features,
+        owner,
+        group,
+        mode,
+        bytes,
+        given != 0,
+        a,
+    )
+}
+
+// The values of a super block, as they stand in it.
+#[no_mangle]
+pub extern "C" fn zonefs_super_fields(
+    superblock: &[u8],
+    label: &mut [u8],
+    uuid: &mut [u8],
+    a: &mut [u64],
+) -> u64
+    ensures { λ r. ⌜ fieldsWords (now (superblock .entry)) (now (label .entry)) (now (uuid .entry)) (now (a .entry)) ≡ record { number = r; label = now (label .exit); uuid = now (uuid .exit); answer = now (a .exit) } ⌝ }
+{
+    format_words::super_fields(superblock, label, uuid, a)
 }
 
 // The checksum of bytes. A super block's is that of its bytes with the checksum field zero.

@@ -1,9 +1,8 @@
 -- A mount value put into words and read back is the mount value, and so is one whose state is put into words that hold another. The state that
 -- words hold changes none of them.
 -- Assumes nothing.
-use Prim.Native.Nat.{ℕ, zero, suc, _+_, _/_, _%_, _^_, _≤_, _<_}
+use Prim.Native.Nat.{ℕ, zero, suc, _+_, _^_, _≤_, _<_}
 use native.Mathlib.Omega.{arith}
-use native.Mathlib.Numerals.{add-one}
 use native.Mathlib.Nat.{mod-eq-of-lt, mod-lt}
 use mathlib.Core.Path.{_≡_, refl, _∙_, ap, sym}
 use mathlib.Core.Bool.{Bool, true, false, cond, _||_}
@@ -28,7 +27,7 @@ use Rattle.types.proofs.Tests.{both, and-left, and-right, or-left, or-right, ca
 use Rattle.types.proofs.CodeLaws.{kind-back, policy-back, command-back}
 use Rattle.types.proofs.Volumes.{BoundedVolume}
 use Rattle.wire.specs.Le.{le, little}
-use Rattle.wire.proofs.Laws.{length-little, little-le}
+use Rattle.wire.proofs.Laws.{length-little, little-le, little-bytes, append-bytes}
 use Rattle.answer_words.specs.Answers.{written}
 use Rattle.mount_words.specs.Words.{mountLength, heldIn, heldWords, outstandingWords, stateAt, outstandingAt, mountWords, word, short, isFlag, isPolicy, isCommand, goodVolume, goodState, possible, shortOf, flagFrom, volumeFrom, heldFrom, outstandingFrom, mountFrom, withOutstanding, withState, Holds}
 
@@ -80,11 +79,6 @@ command-there (suc (suc (suc (suc zero)))) h = refl
 command-there (suc (suc (suc (suc (suc n))))) h = absurd (omega (arith, ltb-true))
 
 -- BYTES
-
--- those of a number, put one by one: the lowest, and then those of the rest
-pub byte-put : (b : List ℕ) (at k x : ℕ) → sets (set b at (x % 256)) (at + 1) (little k (x / 256)) ≡ sets b at (little (suc k) x)
-unfolding little
-byte-put b at k x = ap (λ (n : ℕ). sets (set b at (x % 256)) n (little k (x / 256))) (add-one at)
 
 uuid-back : (u : List ℕ) → ((k : ℕ) → getD u k 0 < 256) → length u ≡ 16 → little 8 (le 8 u 0) ++ little 8 (le 8 u 8) ≡ u
 uuid-back u small h =
@@ -153,17 +147,6 @@ unfolding written
 written-back w m v = let rest = drop (length (mountWords m)) w in (possible-back m rest v, mount-back m rest v)
 
 -- THE MOUNT VALUE OF ANY WORDS is within its types
-
-little-bytes : (n v k : ℕ) → getD (little n v) k 0 < 256
-unfolding little
-little-bytes zero v k = omega arith
-little-bytes (suc n) v zero = omega arith
-little-bytes (suc n) v (suc k) = little-bytes n (v / 256) k
-
-append-bytes : (a b : List ℕ) → ((k : ℕ) → getD a k 0 < 256) → ((k : ℕ) → getD b k 0 < 256) → (k : ℕ) → getD (a ++ b) k 0 < 256
-append-bytes [] b h g k = g k
-append-bytes (x ∷ a) b h g zero = h 0
-append-bytes (x ∷ a) b h g (suc k) = append-bytes a b (λ j. h (suc j)) g k
 
 outstanding-small : (b : Bool) (h : Held) → h .number < 2 ^ 32 → heldIn (cond b (Busy h) Idle) .number < 2 ^ 32
 outstanding-small true h small = small

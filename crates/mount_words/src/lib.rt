@@ -100,30 +100,12 @@ fn short_at(w: &[u64], k: usize) -> u32
     (w[k] % SHORT) as u32
 }
 
-fn low_byte(x: u64) -> u8
-    ensures { λ r. ⌜ r ≡ x % 256 ⌝ }
-{
-    (x % 256) as u8
-}
-
-// Puts the eight bytes of a number at `at`, the lowest first.
-fn put_bytes(b: &mut [u8; 16], at: usize, x: u64)
-    requires { ⌜ at + 8 ≤ 16 ⌝ }
-    ensures { λ _. ⌜ now (b .exit) ≡ sets (now (b .entry)) at (little 8 x) ⌝ }
-{
-    let mut rest = x;
-    for i in 0..8 {
-        b[at + i] = low_byte(rest);
-        rest = rest / 256;
-    }
-}
-
 fn uuid_from(low: u64, high: u64) -> [u8; 16]
     ensures { λ r. ⌜ r ≡ little 8 low ++ little 8 high ⌝ }
 {
     let mut uuid = [0u8; 16];
-    put_bytes(&mut uuid, 0, low);
-    put_bytes(&mut uuid, 8, high);
+    wire::put_number(&mut uuid[..], 0, 8, low);
+    wire::put_number(&mut uuid[..], 8, 8, high);
     uuid
 }
 

@@ -5,16 +5,14 @@ use mathlib.Core.List.{List, [], _∷_}
 use mathlib.Core.Bool.{Bool, true, false, cond}
 use Prim.Native.Nat.{ℕ, zero, suc, _+_, _^_, _<_}
 use native.Mathlib.Omega.{arith}
-use borrow.Author.Tests.{eqb-true, not-false}
 use lib.ListN.{length, getD, take, drop, replicate, length-drop}
 use lib.Seq.{length-take-le, getD-drop}
-use Rattle.types.specs.declared.Refusal.the-variants.{SuperLength}
 use Rattle.types.specs.declared.Verdict.{Verdict}
 use Rattle.types.specs.declared.Verdict.the-variants as verdict
-use Rattle.types.proofs.VerdictLaws.{check-passed}
 use Rattle.wire.proofs.Laws.{le-below}
 use Rattle.superblock.specs.declared.SuperBlock.{SuperBlock}
-use Rattle.superblock.specs.SuperBlock.{superLength, uidAt, gidAt, permAt, hasUid, hasGid, hasPerm, superCheck, fieldsOf, readAs, superRead}
+use Rattle.superblock.specs.SuperBlock.{featuresAt, uidAt, gidAt, permAt, hasUid, hasGid, hasPerm, superCheck, fieldsOf, readAs, superRead}
+use Rattle.superblock.proofs.Told.{super-told}
 
 pub record BoundedFields (f : SuperBlock) : Type 0 where
   pub owner : f .owner < 2 ^ 32
@@ -39,19 +37,15 @@ zero-bytes (suc n) zero = omega arith
 zero-bytes (suc n) (suc k) = zero-bytes n k
 
 module _ (b : List ℕ) (bytes : (k : ℕ) → getD b k 0 < 256) where
-  length-told : superCheck b ≡ verdict.Passed → length b ≡ superLength
-  unfolding superCheck
-  length-told e = eqb-true _ _ (not-false _ (check-passed SuperLength e .0))
-
   read-bounded : (found : Verdict) → superCheck b ≡ found → BoundedFields (readAs found b .fields)
   unfolding fieldsOf
   read-bounded verdict.Passed e =
       record {
-        owner = either-small (hasUid b) (uidAt b) 0 (le-below 4 b 96 bytes) (omega arith);
-        group = either-small (hasGid b) (gidAt b) 0 (le-below 4 b 100 bytes) (omega arith);
-        mode = either-small (hasPerm b) (permAt b) 0o640 (le-below 4 b 104 bytes) (omega arith);
+        owner = either-small (hasUid (featuresAt b)) (uidAt b) 0 (le-below 4 b 96 bytes) (omega arith);
+        group = either-small (hasGid (featuresAt b)) (gidAt b) 0 (le-below 4 b 100 bytes) (omega arith);
+        mode = either-small (hasPerm (featuresAt b)) (permAt b) 0o640 (le-below 4 b 104 bytes) (omega arith);
         bytes = take-bytes 16 (drop 72 b) (λ k. omega (arith, getD-drop 72 b k 0, bytes (72 + k)));
-        sixteen = length-take-le 16 (drop 72 b) (omega (arith, length-drop 72 b, length-told e));
+        sixteen = length-take-le 16 (drop 72 b) (omega (arith, length-drop 72 b, super-told b e .size));
       }
   read-bounded (verdict.Refused x) e =
       record { owner = omega arith; group = omega arith; mode = omega arith; bytes = zero-bytes 16; sixteen = refl }

@@ -7,8 +7,8 @@ use Prim.Native.Nat.{ℕ, _%_, _^_}
 use native.Mathlib.Omega.{arith}
 use borrow.Author.Tests.{ltb-false}
 use Rattle.types.specs.declared.Verdict.the-variants.{Passed}
-use Rattle.types.proofs.VerdictLaws.{check-passed}
-use Rattle.superblock.specs.SuperBlock.{permAt, hasPerm, wrongPerm, superCheck, modeOf, fieldsOf}
+use Rattle.superblock.specs.SuperBlock.{featuresAt, permAt, hasPerm, wrongPerm, superCheck, modeOf, fieldsOf}
+use Rattle.superblock.proofs.Told.{super-told}
 
 low-bits : (used : Bool) (perm : ℕ) → wrongPerm used perm ≡ false → modeOf used perm ≡ modeOf used (perm % 2 ^ 9)
 low-bits true perm e =
@@ -17,16 +17,6 @@ low-bits true perm e =
 low-bits false perm e = refl
 
 module _ (b : List ℕ) (passed : superCheck b ≡ Passed) where
-  perm-told : wrongPerm (hasPerm b) (permAt b) ≡ false
-  unfolding superCheck
-  perm-told =
-      let (_, fields) = check-passed _ passed in
-      let (_, checksum) = check-passed _ fields in
-      let (_, features) = check-passed _ checksum in
-      let (_, owner) = check-passed _ features in
-      let (_, perm) = check-passed _ owner in
-      check-passed _ perm .0
-
-  pub low-nine-bits : fieldsOf b .mode ≡ modeOf (hasPerm b) (permAt b % 2 ^ 9)
+  pub low-nine-bits : fieldsOf b .mode ≡ modeOf (hasPerm (featuresAt b)) (permAt b % 2 ^ 9)
   unfolding fieldsOf
-  low-nine-bits = low-bits (hasPerm b) (permAt b) perm-told
+  low-nine-bits = low-bits (hasPerm (featuresAt b)) (permAt b) (super-told b passed .values .moded)

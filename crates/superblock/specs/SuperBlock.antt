@@ -32,9 +32,19 @@ magic = 0x5A4F4653
 abbrev pub checksumAt : List ℕ → ℕ
 checksumAt b = le 4 b 4
 
+-- "label, 64 bytes at 8"
+abbrev pub labelLength : ℕ
+labelLength = 64
+
+abbrev pub labelAt : List ℕ → List ℕ
+labelAt b = take labelLength (drop 8 b)
+
 -- "uuid, 16 bytes at 72, handed back whole as sixteen bytes"
+abbrev pub uuidLength : ℕ
+uuidLength = 16
+
 abbrev pub uuidAt : List ℕ → List ℕ
-uuidAt b = take 16 (drop 72 b)
+uuidAt b = take uuidLength (drop 72 b)
 
 -- "features u64 at 88"
 abbrev pub featuresAt : List ℕ → ℕ
@@ -60,11 +70,16 @@ abbrev pub tailAt : List ℕ → List ℕ
 tailAt b = drop tailPlace b
 
 -- THE OTHER WAY ROUND: the bytes of a super block, from its checksum field, label (64 bytes), uuid, features, uid, gid and perm. The law
--- `encoded` says that each then stands at its place.
+-- `encoded` says that each then stands at its place, and `decoded` that there are no other bytes with these at their places.
 unfoldable pub encodeSuper : ℕ → List ℕ → List ℕ → ℕ → ℕ → ℕ → ℕ → List ℕ
 encodeSuper checksum label uuid features uid gid perm =
     little 4 magic ++ (little 4 checksum ++ (label ++ (uuid ++ (little 8 features ++ (little 4 uid ++ (little 4 gid ++ (little 4 perm ++
     replicate (superLength - tailPlace) 0)))))))
+
+-- with the checksum of these bytes in its field, which is "taken as zero" for it
+unfoldable pub superBytes : List ℕ → List ℕ → ℕ → ℕ → ℕ → ℕ → List ℕ
+superBytes label uuid features uid gid perm =
+    encodeSuper (superblockCrc (encodeSuper 0 label uuid features uid gid perm)) label uuid features uid gid perm
 
 -- THE FEATURES
 
@@ -73,17 +88,17 @@ abbrev pub bit : ℕ → ℕ → Bool
 bit n k = eqb (n / 2 ^ k % 2) 1
 
 -- "Feature bits: 0 aggregate conventional zones, 1 uid, 2 gid, 3 perm"
-abbrev pub aggregates : List ℕ → Bool
-aggregates b = bit (featuresAt b) 0
+abbrev pub aggregates : ℕ → Bool
+aggregates features = bit features 0
 
-abbrev pub hasUid : List ℕ → Bool
-hasUid b = bit (featuresAt b) 1
+abbrev pub hasUid : ℕ → Bool
+hasUid features = bit features 1
 
-abbrev pub hasGid : List ℕ → Bool
-hasGid b = bit (featuresAt b) 2
+abbrev pub hasGid : ℕ → Bool
+hasGid features = bit features 2
 
-abbrev pub hasPerm : List ℕ → Bool
-hasPerm b = bit (featuresAt b) 3
+abbrev pub hasPerm : ℕ → Bool
+hasPerm features = bit features 3
 
 -- THE CHECKS
 
@@ -100,20 +115,28 @@ abbrev pub wrongChecksum : List ℕ → Bool
 wrongChecksum b = not (eqb (checksumAt b) (superblockCrc b))
 
 -- "features beyond bit 3"
-abbrev pub unknownFeatures : List ℕ → Bool
-unknownFeatures b = leb (2 ^ 4) (featuresAt b)
+abbrev pub unknownFeatures : ℕ → Bool
+unknownFeatures features = leb (2 ^ 4) features
 
 -- "in use and 0xFFFFFFFF"
 abbrev pub nobody : Bool → ℕ → Bool
 nobody used id = used && eqb id 0xFFFFFFFF
 
 -- "uid or gid in use and 0xFFFFFFFF"
-abbrev pub noOwner : List ℕ → Bool
-noOwner b = nobody (hasUid b) (uidAt b) || nobody (hasGid b) (gidAt b)
+abbrev pub noOwner : ℕ → ℕ → ℕ → Bool
+noOwner features uid gid = nobody (hasUid features) uid || nobody (hasGid features) gid
 
 -- 02: "With feature bit 3, a perm above 0777 (octal)"
 abbrev pub wrongPerm : Bool → ℕ → Bool
 wrongPerm used perm = used && ltb 0o777 perm
+
+-- "features beyond bit 3; uid or gid in use and 0xFFFFFFFF", and 02's 33 "after 25", before what the rest finds. A formatter makes these too:
+-- 02: "24 and 25 are the mount's", "K6's formatter refuses it too"
+abbrev pub valuesCheck : ℕ → ℕ → ℕ → ℕ → Verdict → Verdict
+valuesCheck features uid gid perm rest =
+    refuse (unknownFeatures features) SuperFeatures
+    (refuse (noOwner features uid gid) SuperOwner
+    (refuse (wrongPerm (hasPerm features) perm) SuperPerm rest))
 
 -- a byte isn't zero
 unfoldable pub nonzero : List ℕ → Bool
@@ -124,16 +147,13 @@ nonzero (x ∷ xs) = not (eqb x 0) || nonzero xs
 abbrev pub nonzeroTail : List ℕ → Bool
 nonzeroTail b = nonzero (tailAt b)
 
--- "magic, checksum", "features beyond bit 3; uid or gid in use and 0xFFFFFFFF; nonzero tail", in this order.
--- 02: 33 is "checked after 25 and before 26"
+-- "magic, checksum", then these values, then "nonzero tail". 02: 33 is "checked after 25 and before 26"
 abbrev pub fieldsCheck : List ℕ → Verdict
 fieldsCheck b =
     refuse (wrongMagic b) SuperMagic
     (refuse (wrongChecksum b) SuperChecksum
-    (refuse (unknownFeatures b) SuperFeatures
-    (refuse (noOwner b) SuperOwner
-    (refuse (wrongPerm (hasPerm b) (permAt b)) SuperPerm
-    (refuse (nonzeroTail b) SuperTail Passed)))))
+    (valuesCheck (featuresAt b) (uidAt b) (gidAt b) (permAt b)
+    (refuse (nonzeroTail b) SuperTail Passed)))
 
 -- and "super block length" before them
 unfoldable pub superCheck : List ℕ → Verdict
@@ -152,16 +172,16 @@ modeOf used perm = cond used perm 0o640
 unfoldable pub fieldsOf : List ℕ → SuperBlock
 fieldsOf b =
     record {
-      aggregate = aggregates b;
-      owner = idOf (hasUid b) (uidAt b);
-      group = idOf (hasGid b) (gidAt b);
-      mode = modeOf (hasPerm b) (permAt b);
+      aggregate = aggregates (featuresAt b);
+      owner = idOf (hasUid (featuresAt b)) (uidAt b);
+      group = idOf (hasGid (featuresAt b)) (gidAt b);
+      mode = modeOf (hasPerm (featuresAt b)) (permAt b);
       uuid = uuidAt b;
     }
 
 -- the fields that stand beside a refusal
 abbrev pub noFields : SuperBlock
-noFields = record { aggregate = false; owner = 0; group = 0; mode = 0; uuid = replicate 16 0 }
+noFields = record { aggregate = false; owner = 0; group = 0; mode = 0; uuid = replicate uuidLength 0 }
 
 abbrev pub refusedFor : Refusal → SuperRead
 refusedFor x = record { check = Refused x; fields = noFields }

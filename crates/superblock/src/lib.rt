@@ -2,7 +2,7 @@
 ghost use mathlib.Core.Path.{_≡_};
 ghost use Prim.Native.Nat.{_<_, _≤_};
 ghost use lib.ListN.{length, drop};
-ghost use Rattle.superblock.specs.SuperBlock.{featuresAt, permAt, uuidAt, tailPlace, bit, hasPerm, wrongMagic, wrongChecksum, unknownFeatures, noOwner, wrongPerm, nonzero, idOf, modeOf, fieldsOf, fieldsCheck, refusedFor, readAs, superRead};
+ghost use Rattle.superblock.specs.SuperBlock.{uuidAt, tailPlace, bit, hasPerm, wrongMagic, wrongChecksum, unknownFeatures, noOwner, wrongPerm, valuesCheck, nonzero, idOf, modeOf, fieldsOf, fieldsCheck, refusedFor, readAs, superRead};
 use types::Refusal;
 use types::Verdict;
 use types::answers::refuse;
@@ -10,25 +10,29 @@ use types::answers::refuse;
 // The bytes of a super block, and where its fields stand.
 pub const SUPER_BYTES: usize = 4096;
 
-const MAGIC_AT: usize = 0;
+pub const MAGIC_AT: usize = 0;
 
-const CHECKSUM_AT: usize = 4;
+pub const CHECKSUM_AT: usize = 4;
 
-const UUID_AT: usize = 72;
+pub const LABEL_AT: usize = 8;
 
-const UUID_BYTES: usize = 16;
+pub const LABEL_BYTES: usize = 64;
 
-const FEATURES_AT: usize = 88;
+pub const UUID_AT: usize = 72;
 
-const UID_AT: usize = 96;
+pub const UUID_BYTES: usize = 16;
 
-const GID_AT: usize = 100;
+pub const FEATURES_AT: usize = 88;
 
-const PERM_AT: usize = 104;
+pub const UID_AT: usize = 96;
 
-const TAIL_AT: usize = 108;
+pub const GID_AT: usize = 100;
 
-const MAGIC: u32 = 0x5A4F_4653;
+pub const PERM_AT: usize = 104;
+
+pub const TAIL_AT: usize = 108;
+
+pub const MAGIC: u32 = 0x5A4F_4653;
 
 // The feature bits, and the first number with a bit beyond them.
 const AGGREGATE: u64 = 0;
@@ -66,11 +70,10 @@ pub struct SuperRead {
 }
 
 // Bit k of the features is set.
-fn has(b: &[u8], k: u64) -> bool
-    requires { ⌜ (tailPlace ≤ length (now b)) × (k < 64) ⌝ }
-    ensures { λ r. ⌜ r ≡ bit (featuresAt (now (b .entry))) k ⌝ }
+fn has(features: u64, k: u64) -> bool
+    requires { ⌜ k < 64 ⌝ }
+    ensures { λ r. ⌜ r ≡ bit features k ⌝ }
 {
-    let features = wire::u64_at(b, FEATURES_AT);
     (features >> k) % 2 == 1
 }
 
@@ -88,28 +91,34 @@ fn wrong_checksum(b: &[u8]) -> bool
     wire::u32_at(b, CHECKSUM_AT) != crc32::superblock_checksum(b)
 }
 
-fn unknown_features(b: &[u8]) -> bool
-    requires { ⌜ tailPlace ≤ length (now b) ⌝ }
-    ensures { λ r. ⌜ r ≡ unknownFeatures (now (b .entry)) ⌝ }
+fn unknown_features(features: u64) -> bool
+    ensures { λ r. ⌜ r ≡ unknownFeatures features ⌝ }
 {
-    wire::u64_at(b, FEATURES_AT) >= BEYOND_FEATURES
+    features >= BEYOND_FEATURES
 }
 
 // A uid or gid is in use and names nobody.
-fn no_owner(b: &[u8]) -> bool
-    requires { ⌜ tailPlace ≤ length (now b) ⌝ }
-    ensures { λ r. ⌜ r ≡ noOwner (now (b .entry)) ⌝ }
+fn no_owner(features: u64, uid: u32, gid: u32) -> bool
+    ensures { λ r. ⌜ r ≡ noOwner features uid gid ⌝ }
 {
-    (has(b, HAS_UID) & (wire::u32_at(b, UID_AT) == NOBODY))
-        | (has(b, HAS_GID) & (wire::u32_at(b, GID_AT) == NOBODY))
+    (has(features, HAS_UID) & (uid == NOBODY)) | (has(features, HAS_GID) & (gid == NOBODY))
 }
 
 // A perm is in use and has bits beyond those of a mode.
-fn wrong_perm(b: &[u8]) -> bool
-    requires { ⌜ tailPlace ≤ length (now b) ⌝ }
-    ensures { λ r. ⌜ r ≡ wrongPerm (hasPerm (now (b .entry))) (permAt (now (b .entry))) ⌝ }
+fn wrong_perm(features: u64, perm: u32) -> bool
+    ensures { λ r. ⌜ r ≡ wrongPerm (hasPerm features) perm ⌝ }
 {
-    has(b, HAS_PERM) & (wire::u32_at(b, PERM_AT) > HIGHEST_MODE)
+    has(features, HAS_PERM) & (perm > HIGHEST_MODE)
+}
+
+// The checks of the values that a formatter is given too, before what the rest finds. The last comes first: each is handed what those after
+// it find.
+pub fn check_values(features: u64, uid: u32, gid: u32, perm: u32, rest: Verdict) -> Verdict
+    ensures { λ r. ⌜ r ≡ valuesCheck features uid gid perm rest ⌝ }
+{
+    let rest = refuse(wrong_perm(features, perm), Refusal::SuperPerm, rest);
+    let rest = refuse(no_owner(features, uid, gid), Refusal::SuperOwner, rest);
+    refuse(unknown_features(features), Refusal::SuperFeatures, rest)
 }
 
 // A byte from `from` on isn't zero.
@@ -138,14 +147,12 @@ fn mode_of(used: bool, perm: u32) -> u32
     if used { perm } else { DEFAULT_MODE }
 }
 
-fn uuid_of(b: &[u8]) -> [u8; UUID_BYTES]
+pub fn uuid_of(b: &[u8]) -> [u8; UUID_BYTES]
     requires { ⌜ tailPlace ≤ length (now b) ⌝ }
     ensures { λ r. ⌜ r ≡ uuidAt (now (b .entry)) ⌝ }
 {
     let mut uuid = [0u8; UUID_BYTES];
-    for i in 0..UUID_BYTES {
-        uuid[i] = b[UUID_AT + i];
-    }
+    wire::put_bytes(&mut uuid[..], 0, &b[UUID_AT..FEATURES_AT]);
     uuid
 }
 
@@ -153,10 +160,11 @@ fn fields_of(b: &[u8]) -> SuperBlock
     requires { ⌜ tailPlace ≤ length (now b) ⌝ }
     ensures { λ r. ⌜ r ≡ fieldsOf (now (b .entry)) ⌝ }
 {
-    let aggregate = has(b, AGGREGATE);
-    let owner = id_of(has(b, HAS_UID), wire::u32_at(b, UID_AT));
-    let group = id_of(has(b, HAS_GID), wire::u32_at(b, GID_AT));
-    let mode = mode_of(has(b, HAS_PERM), wire::u32_at(b, PERM_AT));
+    let features = wire::u64_at(b, FEATURES_AT);
+    let aggregate = has(features, AGGREGATE);
+    let owner = id_of(has(features, HAS_UID), wire::u32_at(b, UID_AT));
+    let group = id_of(has(features, HAS_GID), wire::u32_at(b, GID_AT));
+    let mode = mode_of(has(features, HAS_PERM), wire::u32_at(b, PERM_AT));
     let uuid = uuid_of(b);
     SuperBlock {
         aggregate,
@@ -184,16 +192,20 @@ fn refused(x: Refusal) -> SuperRead
     }
 }
 
-// The checks of the fields. The last comes first: each is handed what those after it find.
+// The checks of the fields, the last first.
 fn check_fields(b: &[u8]) -> Verdict
     requires { ⌜ tailPlace ≤ length (now b) ⌝ }
     ensures { λ r. ⌜ r ≡ fieldsCheck (now (b .entry)) ⌝ }
 {
     let rest = Verdict::Passed;
     let rest = refuse(nonzero_from(b, TAIL_AT), Refusal::SuperTail, rest);
-    let rest = refuse(wrong_perm(b), Refusal::SuperPerm, rest);
-    let rest = refuse(no_owner(b), Refusal::SuperOwner, rest);
-    let rest = refuse(unknown_features(b), Refusal::SuperFeatures, rest);
+    let rest = check_values(
+        wire::u64_at(b, FEATURES_AT),
+        wire::u32_at(b, UID_AT),
+        wire::u32_at(b, GID_AT),
+        wire::u32_at(b, PERM_AT),
+        rest,
+    );
     let rest = refuse(wrong_checksum(b), Refusal::SuperChecksum, rest);
     refuse(wrong_magic(b), Refusal::SuperMagic, rest)
 }

@@ -1,8 +1,8 @@
--- The number and the values of each answer, as paper 01 gives them: "When the drawer says no", and 0 for what is not refused. 02 adds reasons and 33.
+-- The number and the values of each answer, as paper 01 gives them: "When the drawer says no", and 0 for what is not refused. 02 adds reasons, 33 and 34.
 use Prim.Native.Nat.{ℕ}
 use mathlib.Core.List.{List, [], _∷_}
 use Rattle.types.specs.declared.Refusal.{Refusal}
-use Rattle.types.specs.declared.Refusal.the-variants.{NoFile, Busy, ReadOnlyMount, Denied, BeyondCapacity, Misplaced, Failed, NothingOutstanding, BadRecord, Impossible, BadBlock, SuperLength, SuperMagic, SuperChecksum, SuperFeatures, SuperOwner, SuperTail, BadOptions, BadReport, BadZone, TooFewRows, SuperPerm}
+use Rattle.types.specs.declared.Refusal.the-variants.{NoFile, Busy, ReadOnlyMount, Denied, BeyondCapacity, Misplaced, Failed, NothingOutstanding, BadRecord, Impossible, BadBlock, SuperLength, SuperMagic, SuperChecksum, SuperFeatures, SuperOwner, SuperTail, BadOptions, BadReport, BadZone, TooFewRows, SuperPerm, LabelLength}
 use Rattle.types.specs.declared.RefusalCode.{RefusalCode}
 use Rattle.types.specs.declared.Values.{Values}
 use Rattle.types.specs.declared.Values.the-variants.{Nothing, One, Two}
@@ -16,7 +16,9 @@ use Rattle.types.specs.declared.FindAnswer.{FindAnswer}
 use Rattle.types.specs.declared.FindAnswer.the-variants as find
 use Rattle.types.specs.declared.ShowAnswer.{ShowAnswer}
 use Rattle.types.specs.declared.ShowAnswer.the-variants as show
-use Rattle.types.specs.Codes.{kindCode, conditionCode, accessCode, commandCode, faultCode}
+use Rattle.types.specs.declared.FormatAnswer.{FormatAnswer}
+use Rattle.types.specs.declared.FormatAnswer.the-variants as format
+use Rattle.types.specs.Codes.{flagCode, kindCode, conditionCode, accessCode, commandCode, faultCode}
 
 -- ---- a refusal
 
@@ -72,6 +74,8 @@ refusalCode (BadZone zone fault) = withTwo 29 zone (faultCode fault)
 refusalCode TooFewRows = plain 30
 -- 02: "With feature bit 3, a perm above 0777 (octal) now refuses the mount with 33"
 refusalCode SuperPerm = plain 33
+-- 02: "a label longer than 64 bytes 34"
+refusalCode LabelLength = plain 34
 
 -- the values as a list
 abbrev pub listed : Values → List ℕ
@@ -133,3 +137,12 @@ abbrev pub showValues : ShowAnswer → List ℕ
 showValues (show.Refused r) = refusalValues r
 showValues (show.Shown row mode) =
     row .start ∷ row .capacity ∷ row .size ∷ conditionCode (row .condition) ∷ accessCode (row .access) ∷ mode ∷ []
+
+abbrev pub formatNumber : FormatAnswer → ℕ
+formatNumber (format.Refused r) = refusalNumber r
+formatNumber (format.Formatted finish) = 0
+
+-- 02: "say whether zone 0 must first be finished": 1 for yes
+abbrev pub formatValues : FormatAnswer → List ℕ
+formatValues (format.Refused r) = refusalValues r
+formatValues (format.Formatted finish) = flagCode finish ∷ []

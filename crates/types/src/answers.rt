@@ -1,9 +1,10 @@
 // What each answer is in numbers; and a chain of checks, of which the first that fails decides.
 ghost use mathlib.Core.Path.{_≡_};
-ghost use Rattle.types.specs.Numbers.{plain, withValue, withTwo, refusalCode, refusalNumber, answerNumber, mountNumber, findNumber, showNumber};
+ghost use Rattle.types.specs.Numbers.{plain, withValue, withTwo, refusalCode, refusalNumber, answerNumber, mountNumber, findNumber, showNumber, formatNumber};
 ghost use Rattle.types.specs.Verdicts.{refuse, andThen};
 use crate::Answer;
 use crate::FindAnswer;
+use crate::FormatAnswer;
 use crate::MountAnswer;
 use crate::Refusal;
 use crate::RefusalCode;
@@ -83,6 +84,7 @@ pub fn refusal_code(x: Refusal) -> RefusalCode
         Refusal::BadZone(zone, fault) => with_two(29, zone as u64, fault_code(fault)),
         Refusal::TooFewRows => plain(30),
         Refusal::SuperPerm => plain(33),
+        Refusal::LabelLength => plain(34),
     }
 }
 
@@ -127,5 +129,14 @@ pub fn show_number(a: ShowAnswer) -> u64
     match a {
         ShowAnswer::Refused(r) => refusal_number(r),
         ShowAnswer::Shown(_, _) => 0,
+    }
+}
+
+pub fn format_number(a: FormatAnswer) -> u64
+    ensures { λ n. ⌜ n ≡ formatNumber a ⌝ }
+{
+    match a {
+        FormatAnswer::Refused(r) => refusal_number(r),
+        FormatAnswer::Formatted(_) => 0,
     }
 }

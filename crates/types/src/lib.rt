@@ -150,6 +150,7 @@ pub enum Refusal {
     BadZone(u32, ZoneFault),
     TooFewRows,
     SuperPerm,
+    LabelLength,
 }
 
 // The values that a refusal tells beside its number.
@@ -194,6 +195,12 @@ pub enum FindAnswer {
 pub enum ShowAnswer {
     Refused(Refusal),
     Shown(Row, u32),
+}
+
+// What formatting answers: a refusal, or whether zone 0 must first be finished.
+pub enum FormatAnswer {
+    Refused(Refusal),
+    Formatted(bool),
 }
 
 // What a call or a completion gives beside the tables.

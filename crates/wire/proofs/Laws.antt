@@ -1,12 +1,12 @@
 -- The laws of little-endian numbers, which every width cites, and of bytes laid out one part after the other.
 -- Assumes nothing.
 use mathlib.Core.Path.{_≡_, refl, _∙_, ap, sym}
-use mathlib.Core.List.{List, _∷_, _++_}
+use mathlib.Core.List.{List, [], _∷_, _++_}
 use Prim.Native.Nat.{ℕ, zero, suc, _+_, _*_, _/_, _%_, _^_, _≤_, _<_}
 use native.Mathlib.Numerals.{add-one}
 use native.Mathlib.Nat.{zero-add, suc-add, add-zero, mul-comm, mul-assoc, pow-suc}
 use native.Mathlib.Omega.{arith}
-use lib.ListN.{length, getD, take, drop}
+use lib.ListN.{length, getD, take, drop, take-append-drop}
 use lib.Seq.{drop-cons, drop-drop, drop-at, getD-drop}
 use Rattle.wire.specs.Le.{le, little}
 
@@ -29,6 +29,19 @@ pub le-below : (n : ℕ) (b : List ℕ) (at : ℕ) → ((k : ℕ) → getD b k 0
 unfolding le
 le-below zero b at small = omega arith
 le-below (suc n) b at small = omega (arith, small at, le-below n b (at + 1) small, pow-suc 256 n)
+
+-- BYTES, all below 256: those of a number, and of two lists of them, one after the other
+
+pub little-bytes : (n v k : ℕ) → getD (little n v) k 0 < 256
+unfolding little
+little-bytes zero v k = omega arith
+little-bytes (suc n) v zero = omega arith
+little-bytes (suc n) v (suc k) = little-bytes n (v / 256) k
+
+pub append-bytes : (l m : List ℕ) → ((k : ℕ) → getD l k 0 < 256) → ((k : ℕ) → getD m k 0 < 256) → (k : ℕ) → getD (l ++ m) k 0 < 256
+append-bytes [] m h g k = g k
+append-bytes (x ∷ l) m h g zero = h 0
+append-bytes (x ∷ l) m h g (suc k) = append-bytes l m (λ j. h (suc j)) g k
 
 -- THERE AND BACK
 
@@ -90,3 +103,10 @@ next-part b part rest at n l e = sym (drop-drop n at b) ∙ ap (drop n) e ∙ dr
 pub number-at : (b rest : List ℕ) (at n v : ℕ) → v < 256 ^ n → drop at b ≡ little n v ++ rest → le n b at ≡ v
 number-at b rest at n v h e =
     sym (le-drop n at b 0 ∙ ap (le n b) (add-zero at)) ∙ ap (λ (l : List ℕ). le n l 0) e ∙ le-little n v rest h
+
+-- and back: a part of n bytes that stand there, and the rest behind it
+pub joined : (b part rest : List ℕ) (at n : ℕ) → part ≡ take n (drop at b) → rest ≡ drop (at + n) b → part ++ rest ≡ drop at b
+joined b part rest at n p r =
+    ap (λ (l : List ℕ). l ++ rest) p
+    ∙ ap (λ (l : List ℕ). take n (drop at b) ++ l) (r ∙ sym (drop-drop n at b))
+    ∙ take-append-drop n (drop at b)

@@ -1,8 +1,10 @@
-// Little-endian numbers at an offset of lent bytes: each width is two numbers of half its bytes, the low one first.
+// Little-endian numbers at an offset of lent bytes: each width is two numbers of half its bytes, the low one first. And the other way round:
+// numbers, bytes and zeros put into lent bytes from a place on.
 ghost use mathlib.Core.Path.{_≡_};
-ghost use Prim.Native.Nat.{_+_, _≤_, _<_};
-ghost use lib.ListN.{length, getD};
-ghost use Rattle.wire.specs.Le.{le};
+ghost use Prim.Native.Nat.{_+_, _%_, _≤_, _<_};
+ghost use lib.ListN.{length, getD, replicate};
+ghost use lib.Seq.{sets};
+ghost use Rattle.wire.specs.Le.{le, little};
 
 // What a high half weighs: the values of one byte, of two and of four.
 const ONE_BYTE: u16 = 256;
@@ -47,4 +49,42 @@ pub fn u64_at(b: &[u8], at: usize) -> u64
     let low = u32_at(b, at);
     let high = u32_at(b, at + 4);
     low as u64 + FOUR_BYTES * (high as u64)
+}
+
+fn low_byte(x: u64) -> u8
+    ensures { λ r. ⌜ r ≡ x % 256 ⌝ }
+{
+    (x % 256) as u8
+}
+
+// Puts `n` bytes of a number at `at`, the lowest first.
+pub fn put_number(b: &mut [u8], at: usize, n: usize, x: u64)
+    requires { ⌜ at + n ≤ length (now b) ⌝ }
+    ensures { λ _. ⌜ now (b .exit) ≡ sets (now (b .entry)) at (little n x) ⌝ }
+{
+    let mut rest = x;
+    for i in 0..n {
+        b[at + i] = low_byte(rest);
+        rest = rest / 256;
+    }
+}
+
+// Puts the bytes of `from` at `at`.
+pub fn put_bytes(b: &mut [u8], at: usize, from: &[u8])
+    requires { ⌜ at + length (now from) ≤ length (now b) ⌝ }
+    ensures { λ _. ⌜ now (b .exit) ≡ sets (now (b .entry)) at (now (from .entry)) ⌝ }
+{
+    for i in 0..from.len() {
+        b[at + i] = from[i];
+    }
+}
+
+// Puts `n` zeros at `at`.
+pub fn put_zeros(b: &mut [u8], at: usize, n: usize)
+    requires { ⌜ at + n ≤ length (now b) ⌝ }
+    ensures { λ _. ⌜ now (b .exit) ≡ sets (now (b .entry)) at (replicate n 0) ⌝ }
+{
+    for i in 0..n {
+        b[at + i] = 0;
+    }
 }

@@ -84,7 +84,7 @@ impl Event {
 /// A number and its values.
 pub type Answer = (u64, Vec<u64>);
 
-fn refused(refusal: Refusal) -> Answer {
+pub fn refused(refusal: Refusal) -> Answer {
     (u64::from(refusal.number()), refusal.values())
 }
 
@@ -115,7 +115,7 @@ fn expect(volume: &mut Volume, event: &Event) -> Answer {
 }
 
 /// The answer words after these values.
-fn answer_after(before: &[u64], values: &[u64]) -> Vec<u64> {
+pub fn answer_after(before: &[u64], values: &[u64]) -> Vec<u64> {
     let mut after = vec![0; ANSWER_WORDS];
     after[0] = values.len() as u64;
     after[1..=values.len()].copy_from_slice(values);

@@ -1,8 +1,9 @@
 //! The library, linked into this process, against the reference on random inputs, call by call: number, values, mount words and both
-//! tables; and the typed functions against those on words.
+//! tables, super blocks made and read; and the typed functions against those on words.
 
 mod convert;
 mod events;
+mod formats;
 mod typed;
 
 use std::collections::BTreeMap;

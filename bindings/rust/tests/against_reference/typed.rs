@@ -1,9 +1,10 @@
 //! The typed functions answer what the words do, and leave the same words.
 
+use reference::generator::format::FormatCase;
 use reference::player::calls::Request;
 use reference::player::mount::Input;
 use zonefs::words::{ANSWER_VALUES, ANSWER_WORDS, MOUNT_WORDS};
-use zonefs::{FileId, FileKind, MountValue, Refusal, Reply, RowWords, Source, Volume};
+use zonefs::{FileId, FileKind, Format, MountValue, Refusal, Reply, RowWords, Source, SuperFields, Volume};
 
 use crate::convert::mount_of;
 use crate::events::{Answer, Event, Lent};
@@ -100,6 +101,27 @@ pub fn check_mount(before: &Lent, input: &Input, number: u64, after: &Lent) {
     };
     assert_eq!(answer, answered(number, before, after));
     assert_eq!((cnv, seq), (rows(&after.cnv), rows(&after.seq)));
+}
+
+/// `left` is the block as the words left it, and `answer` what they answered.
+pub fn check_format(case: &FormatCase, answer: Answer, left: &[u8]) {
+    let FormatCase { block, uuid, features, owner, group, mode, given: capacity_given, .. } = *case;
+    let (label, record) = (&case.label[..], &case.record[..]);
+    let wanted = Format { block, label, uuid, features, owner, group, mode, record, capacity_given };
+    let mut super_block = case.lent.clone();
+    let made = zonefs::format(&wanted, &mut super_block).map(|made| (0, vec![u64::from(made.finish)]));
+    assert_eq!(made.unwrap_or_else(refused), answer, "{case:?}");
+    assert!(super_block == left, "other bytes: {case:?}");
+}
+
+/// `label` and `uuid` are what the words left there, and `answer` what they answered.
+pub fn check_fields(super_block: &[u8], answer: Answer, label: &[u8], uuid: &[u8]) {
+    let read = zonefs::super_fields(super_block).map(|fields| {
+        assert_eq!((&fields.label[..], &fields.uuid[..]), (label, uuid));
+        let SuperFields { features, owner, group, mode, .. } = fields;
+        (0, vec![features, u64::from(owner), u64::from(group), u64::from(mode)])
+    });
+    assert_eq!(read.unwrap_or_else(refused), answer);
 }
 
 fn counts(value: MountValue) -> Vec<u64> {

@@ -8,51 +8,47 @@ nonzero-from-requires c κs = search needs
 refuse-requires : tie.Need-refuse-requires
 refuse-requires c κs = search needs
 
-wrong-perm-requires : tie.Need-wrong-perm-requires
-wrong-perm-requires c κs = search needs
+u64-at-requires : tie.Need-u64-at-requires
+u64-at-requires c κs = search needs
 
-refuse-requires-2 : tie.Need-refuse-requires-2
-refuse-requires-2 c κs = search needs
+u32-at-requires : tie.Need-u32-at-requires
+u32-at-requires c κs = search needs
 
-no-owner-requires : tie.Need-no-owner-requires
-no-owner-requires c κs = search needs
+u32-at-requires-2 : tie.Need-u32-at-requires-2
+u32-at-requires-2 c κs = search needs
 
-refuse-requires-3 : tie.Need-refuse-requires-3
-refuse-requires-3 c κs = search needs
+u32-at-requires-3 : tie.Need-u32-at-requires-3
+u32-at-requires-3 c κs = search needs
 
-unknown-features-requires : tie.Need-unknown-features-requires
-unknown-features-requires c κs = search needs
-
-refuse-requires-4 : tie.Need-refuse-requires-4
-refuse-requires-4 c κs = search needs
+check-values-requires : tie.Need-check-values-requires
+check-values-requires c κs = search needs
 
 wrong-checksum-requires : tie.Need-wrong-checksum-requires
 wrong-checksum-requires c κs = search needs
 
-refuse-requires-5 : tie.Need-refuse-requires-5
-refuse-requires-5 c κs = search needs
+refuse-requires-2 : tie.Need-refuse-requires-2
+refuse-requires-2 c κs = search needs
 
 wrong-magic-requires : tie.Need-wrong-magic-requires
 wrong-magic-requires c κs = search needs
 
-refuse-requires-6 : tie.Need-refuse-requires-6
-refuse-requires-6 c κs = search needs
+refuse-requires-3 : tie.Need-refuse-requires-3
+refuse-requires-3 c κs = search needs
 
 returns : tie.Need-returns
 returns c =
-    let owner = c .before .before .before .before .before .before in
-    let tail = owner .before .before .before .before in
+    let values = c .before .before .before .before in
+    let tail = values .before .before .before .before .before in
     rw (
-      c .refuse6 .ensures,
+      c .refuse3 .ensures,
       c .before .wrong-magic .ensures,
-      c .before .before .refuse5 .ensures,
+      c .before .before .refuse2 .ensures,
       c .before .before .before .wrong-checksum .ensures,
-      c .before .before .before .before .refuse4 .ensures,
-      c .before .before .before .before .before .unknown-features .ensures,
-      owner .refuse3 .ensures,
-      owner .before .no-owner .ensures,
-      owner .before .before .refuse2 .ensures,
-      owner .before .before .before .wrong-perm .ensures,
+      values .check-values .ensures,
+      values .before .u32-at3 .ensures,
+      values .before .before .u32-at2 .ensures,
+      values .before .before .before .u32-at .ensures,
+      values .before .before .before .before .u64-at .ensures,
       tail .refuse .ensures,
       tail .before .nonzero-from .ensures,
     )
@@ -63,14 +59,13 @@ check-fields-spec =
     (tie.spec
     nonzero-from-requires
     refuse-requires
-    wrong-perm-requires
-    refuse-requires-2
-    no-owner-requires
-    refuse-requires-3
-    unknown-features-requires
-    refuse-requires-4
+    u64-at-requires
+    u32-at-requires
+    u32-at-requires-2
+    u32-at-requires-3
+    check-values-requires
     wrong-checksum-requires
-    refuse-requires-5
+    refuse-requires-2
     wrong-magic-requires
-    refuse-requires-6
+    refuse-requires-3
     returns)

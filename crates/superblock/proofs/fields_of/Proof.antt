@@ -3,6 +3,9 @@ use borrow.Author.Needs.{needs}
 use Rattle.superblock.proofs.fields_of.Statement.{statement}
 use Rattle.superblock.proofs.fields_of.Tie as tie
 
+u64-at-requires : tie.Need-u64-at-requires
+u64-at-requires c κs = search needs
+
 has-requires : tie.Need-has-requires
 has-requires c κs = search needs
 
@@ -44,6 +47,7 @@ pub fields-of-spec : {M : Type 1} → statement M
 fields-of-spec =
     tie.close
     (tie.spec
+    u64-at-requires
     has-requires
     has-requires-2
     u32-at-requires

@@ -5,18 +5,11 @@ use Rattle.superblock.proofs.no_owner.Tie as tie
 has-requires : tie.Need-has-requires
 has-requires c κs = search needs
 
-u32-at-requires : tie.Need-u32-at-requires
-u32-at-requires c κs = search needs
-
 has-requires-2 : tie.Need-has-requires-2
 has-requires-2 c κs = search needs
 
-u32-at-requires-2 : tie.Need-u32-at-requires-2
-u32-at-requires-2 c κs = search needs
-
 returns : tie.Need-returns
-returns c = rw (c .u32-at2 .ensures, c .before .has2 .ensures, c .before .before .u32-at .ensures, c .before .before .before .has .ensures)
+returns c = rw (c .has2 .ensures, c .before .has .ensures)
 
 pub no-owner-spec : {M : Type 1} → statement M
-no-owner-spec =
-    tie.close (tie.spec has-requires u32-at-requires has-requires-2 u32-at-requires-2 returns)
+no-owner-spec = tie.close (tie.spec has-requires has-requires-2 returns)

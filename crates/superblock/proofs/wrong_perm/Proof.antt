@@ -5,11 +5,8 @@ use Rattle.superblock.proofs.wrong_perm.Tie as tie
 has-requires : tie.Need-has-requires
 has-requires c κs = search needs
 
-u32-at-requires : tie.Need-u32-at-requires
-u32-at-requires c κs = search needs
-
 returns : tie.Need-returns
-returns c = rw (c .u32-at .ensures, c .before .has .ensures)
+returns c = rw (c .has .ensures)
 
 pub wrong-perm-spec : {M : Type 1} → statement M
-wrong-perm-spec = tie.close (tie.spec has-requires u32-at-requires returns)
+wrong-perm-spec = tie.close (tie.spec has-requires returns)

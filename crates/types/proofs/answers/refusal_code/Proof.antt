@@ -143,6 +143,12 @@ enum-told-19 c = search needs
 plain-requires-19 : tie.Need-plain-requires-19
 plain-requires-19 c κs = search needs
 
+enum-told-20 : tie.Need-enum-told-20
+enum-told-20 c = search needs
+
+plain-requires-20 : tie.Need-plain-requires-20
+plain-requires-20 c κs = search needs
+
 returns : tie.Need-returns
 returns c = rw (c .before .enum-told .given .1) (c .plain .ensures)
 
@@ -209,6 +215,9 @@ returns-21 c = rw (c .before .enum-told18 .given .1) (c .plain18 .ensures)
 returns-22 : tie.Need-returns-22
 returns-22 c = rw (c .before .enum-told19 .given .1) (c .plain19 .ensures)
 
+returns-23 : tie.Need-returns-23
+returns-23 c = rw (c .before .enum-told20 .given .1) (c .plain20 .ensures)
+
 pub refusal-code-spec : {M : Type 1} → statement M
 refusal-code-spec =
     tie.close
@@ -260,6 +269,8 @@ refusal-code-spec =
     plain-requires-18
     enum-told-19
     plain-requires-19
+    enum-told-20
+    plain-requires-20
     returns
     returns-2
     returns-3
@@ -281,4 +292,5 @@ refusal-code-spec =
     returns-19
     returns-20
     returns-21
-    returns-22)
+    returns-22
+    returns-23)

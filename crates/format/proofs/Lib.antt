@@ -1,0 +1,4 @@
+pub mod Alone
+pub mod Bytes
+pub mod Checks
+pub mod Promises
