@@ -3,14 +3,13 @@
 use Prim.Native.Nat.{ℕ}
 use mathlib.Core.Path.{_≡_, refl, ap}
 use mathlib.Core.Bool.{Bool, true, false, not}
-use mathlib.Core.List.{List, [], _∷_, _++_}
+use mathlib.Core.List.{List, [], _∷_}
 use lib.ListN.{length, drop}
 use borrow.Author.Tests.{eqb-true, not-false}
 use Rattle.types.specs.declared.Refusal.the-variants.{BadBlock, BadReport, BadOptions, TooFewRows, BadZone}
 use Rattle.types.specs.declared.ZoneFault.the-variants as fault
 use Rattle.types.specs.declared.Verdict.the-variants.{Passed}
 use Rattle.types.specs.Blocks.{blockSectors, goodBlock}
-use Rattle.types.specs.Codes.{flagCode}
 use Rattle.types.proofs.VerdictLaws.{check-passed, check-passes, then-passes}
 use Rattle.wire.specs.Le.{le, little}
 use Rattle.options.specs.Options.{split, skipEmpty, optionsOf}
@@ -19,9 +18,7 @@ use Rattle.files.specs.Files.{cnvRows, seqRows, runs}
 use Rattle.report.specs.Report.{goodHeader, zonesFrom, zonesOf, reportCheck}
 use Rattle.mount.specs.Mount.{fileZones, tooFew, openingCheck, filesCheck, mountCheck}
 use Rattle.format.specs.Format.{recordCheck}
-
-abbrev alone : Bool → List ℕ → List ℕ
-alone given zone = little 8 0 ++ (little 4 1 ++ (little 4 (flagCode given) ++ zone))
+use Rattle.format.specs.Promises.{alone}
 
 header : (given : Bool) (zone : List ℕ) → length zone ≡ zoneBytes → goodHeader (alone given zone) ≡ true
 unfolding goodHeader le little

@@ -28,7 +28,7 @@ use Rattle.mount.specs.Fill.{fill}
 use Rattle.mount.specs.Mount.{Mounting, fileZones, mountCheck, answerFor, mountAnswerOf, policyOf, mountOf, tableAfter, aggregated, mountAnswer, mountOutcome}
 use Rattle.format.specs.declared.SuperFields.{SuperFields}
 use Rattle.format.specs.Format.{recordCheck, filled, blockOf, formatCheck, formatAs, formatOutcome, fieldsAt, fieldsRead}
-use Rattle.format.specs.Promises.{Typed, AllElseGood, MountsWith, WrittenMounts, MountThere, WrittenRead, ReadWritten}
+use Rattle.format.specs.Promises.{Typed, AllElseGood, MountsWith, WrittenMounts, MountThere, asGiven, WrittenRead, ReadWritten}
 use Rattle.format.proofs.Alone.{mounts-alone}
 use Rattle.format.proofs.Bytes.{filled-length}
 use Rattle.format.proofs.Checks.{Told, format-told, format-passes}
@@ -93,17 +93,7 @@ module _ (block : ℕ) (lent zone : List ℕ) (v : SuperFields) (given finish : 
           seq = ap (λ (o : Mounting). o .seq) whole;
         }
 
-    read-back : fieldsRead (formatOutcome block lent v given zone .block) ≡ record {
-      check = verdict.Passed;
-      fields = record {
-        label = filled (v .label);
-        uuid = v .uuid;
-        features = v .features;
-        owner = v .owner;
-        group = v .group;
-        mode = v .mode;
-      };
-    }
+    read-back : fieldsRead (formatOutcome block lent v given zone .block) ≡ asGiven v
     unfolding fieldsRead fieldsAt superBytes
     read-back =
         let h = written.holds _ _ _ _ _ _ typed in

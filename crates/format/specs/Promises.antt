@@ -19,6 +19,7 @@ use Rattle.files.specs.Files.{cnvRows, seqRows}
 use Rattle.mount.specs.Fill.{fill}
 use Rattle.mount.specs.Mount.{Mounting, fileZones, mountCheck, mountOutcome}
 use Rattle.format.specs.declared.SuperFields.{SuperFields}
+use Rattle.format.specs.declared.FieldsRead.{FieldsRead}
 use Rattle.format.specs.Format.{mustFinish, recordCheck, filled, formatOutcome, fieldsRead}
 
 -- what the types of the given values say: label and uuid are bytes, sixteen of them the uuid, and the numbers have 64 and 32 bits
@@ -53,17 +54,20 @@ WrittenMounts =
     o .answer ≡ Formatted finish → (mountBlock : ℕ) (options report cnv seq : List ℕ) → AllElseGood mountBlock options (v .features) report cnv seq
     → MountsWith v report cnv seq (mountOutcome mountBlock (o .block) options report cnv seq)
 
--- for each there is such a mount: of a disk that is zone 0 alone, by the record and the flag that it was formatted with
+-- the report of a disk that is zone 0 alone
+abbrev pub alone : Bool → List ℕ → List ℕ
+alone given zone = little 8 0 ++ (little 4 1 ++ (little 4 (flagCode given) ++ zone))
+
+-- for each there is such a mount: of that disk, by the record and the flag that it was formatted with
 unfoldable pub MountThere : Type 0
 MountThere =
     (block : ℕ) (lent zone : List ℕ) (v : SuperFields) (given finish : Bool) → formatOutcome block lent v given zone .answer ≡ Formatted finish
-    → AllElseGood block [] (v .features) (little 8 0 ++ (little 4 1 ++ (little 4 (flagCode given) ++ zone))) [] []
+    → AllElseGood block [] (v .features) (alone given zone) [] []
 
--- and it is read as it was given, its label zero-filled
-unfoldable pub WrittenRead : Type 0
-WrittenRead =
-    (block : ℕ) (lent zone : List ℕ) (v : SuperFields) (given finish : Bool) → Typed v → let o = formatOutcome block lent v given zone in
-    o .answer ≡ Formatted finish → fieldsRead (o .block) ≡ record {
+-- what is read of values as they were given, the label zero-filled
+abbrev pub asGiven : SuperFields → FieldsRead
+asGiven v =
+    record {
       check = Passed;
       fields = record {
         label = filled (v .label);
@@ -74,6 +78,12 @@ WrittenRead =
         mode = v .mode;
       };
     }
+
+-- and every block written is read so
+unfoldable pub WrittenRead : Type 0
+WrittenRead =
+    (block : ℕ) (lent zone : List ℕ) (v : SuperFields) (given finish : Bool) → Typed v → let o = formatOutcome block lent v given zone in
+    o .answer ≡ Formatted finish → fieldsRead (o .block) ≡ asGiven v
 
 -- "every accepted block, read and written again, is the same bytes", accepted by the mount's checks of it; with a good block size, a lent block
 -- of 4,096 bytes and a good record
