@@ -1,6 +1,6 @@
 /*
- * A small program on the proved library: formats a disk, mounts it, appends to a file, has the next append fail halfway, recovers, and goes on. Of
- * the failure it first hands over another zone's record, to show how a refusal says what is bad.
+ * A small program on the proved library: formats a disk, mounts it, keeps two files busy at once, has an append fail halfway, recovers, and goes
+ * on. Of the failure it first hands over another zone's record, to show how a refusal says what is bad.
  * The disk is played by this program: it makes up the zone report, and the record that comes with the failure. On Linux the bytes that
  * BLKREPORTZONE gives, and those of a zone's record, can be passed on as they come.
  * It prints each step, and ends with status 1 where a step answers otherwise than it should. Build and run: docs/LINKING.md.
@@ -94,20 +94,25 @@ static void step(const char *what, struct zonefs_volume_answer a, uint64_t expec
   }
 }
 
-static struct zonefs_volume_answer append(uint64_t offset, uint64_t length) {
-  return zonefs_volume_write(&volume, ZONEFS_SEQ, 0, offset, length);
+static struct zonefs_volume_answer append(uint32_t file, uint64_t offset, uint64_t length) {
+  return zonefs_volume_write(&volume, ZONEFS_SEQ, file, offset, length);
 }
 
-/* The append failed, and this is the record of a sequential zone. */
-static struct zonefs_volume_answer append_failed(unsigned zone, unsigned condition, uint64_t pointer) {
+/* The disk did what the file has outstanding. A controller keeps the file's number with the command, to name it here. */
+static struct zonefs_volume_answer done(uint32_t file) {
+  return zonefs_volume_complete(&volume, ZONEFS_SEQ, file);
+}
+
+/* The disk failed what the file has outstanding, and this is the record of a sequential zone. */
+static struct zonefs_volume_answer failed(uint32_t file, unsigned zone, uint64_t pointer) {
   uint8_t record[ZONEFS_ZONE_BYTES];
-  make_zone(record, (uint64_t)zone * ZONE_SECTORS, 2, condition, CAPACITY_SECTORS, pointer);
-  return zonefs_volume_fail(&volume, record, sizeof(record), ZONEFS_CAPACITY_GIVEN);
+  make_zone(record, (uint64_t)zone * ZONE_SECTORS, 2, 2, CAPACITY_SECTORS, pointer);
+  return zonefs_volume_fail(&volume, ZONEFS_SEQ, file, record, sizeof(record), ZONEFS_CAPACITY_GIVEN);
 }
 
-static uint64_t size_now(void) {
-  struct zonefs_volume_answer shown = zonefs_volume_show(&volume, ZONEFS_SEQ, 0);
-  step("show seq/0", shown, ZONEFS_OK);
+static uint64_t size_now(const char *what, uint32_t file) {
+  struct zonefs_volume_answer shown = zonefs_volume_show(&volume, ZONEFS_SEQ, file);
+  step(what, shown, ZONEFS_OK);
   return shown.size;
 }
 
@@ -145,31 +150,51 @@ static void mount_volume(void) {
        ZONEFS_OK);
 }
 
+/*
+ * Each file may have a command of its own outstanding, and the disk may be done with them in any order: seq/1 is reset and written again while an
+ * append to seq/0 is still under way. Only the file that has one outstanding takes no other.
+ */
+static void keep_two_files_busy(uint64_t size) {
+  step("append 8192 to seq/0", append(0, size, 8192), ZONEFS_OK);
+  step("reset seq/1 in the meantime", zonefs_volume_truncate(&volume, ZONEFS_SEQ, 1, 0), ZONEFS_OK);
+  step("append to seq/0, which is busy", append(0, size, 8192), ZONEFS_BUSY);
+  step("seq/1's reset is done", done(1), ZONEFS_OK);
+  step("append 4096 to seq/1", append(1, 0, 4096), ZONEFS_OK);
+  step("seq/0's append is done", done(0), ZONEFS_OK);
+  step("seq/0 has nothing outstanding", done(0), ZONEFS_NOTHING_OUTSTANDING);
+  step("seq/1's append is done", done(1), ZONEFS_OK);
+  if (size_now("show seq/0", 0) != 12288 || size_now("show seq/1", 1) != 4096) {
+    printf("the files should have three blocks and one\n");
+    exit(1);
+  }
+}
+
+/* Of two blocks only one lands: the zone's record has the pointer behind it, and that of another zone is refused. */
+static void fail_halfway(uint64_t size) {
+  step("append 8192 to seq/0", append(0, size, 8192), ZONEFS_OK);
+  step("it failed, with zone 4's record", failed(0, 4, 4ull * ZONE_SECTORS + BLOCK / SECTOR), ZONEFS_BAD_RECORD);
+  step("the disk failed halfway", failed(0, 3, 3ull * ZONE_SECTORS + (size + BLOCK) / SECTOR), ZONEFS_FAILED);
+}
+
 int main(void) {
   uint64_t size;
 
   mount_volume();
   show_full_file();
   step("find seq/0", zonefs_volume_find(&volume, "seq/0"), ZONEFS_OK);
-  size = size_now();
+  size = size_now("show seq/0", 0);
 
-  /* the answer has the command for the disk: here it does it */
-  step("append 8192", append(size, 8192), ZONEFS_OK);
-  step("the disk did it", zonefs_volume_complete(&volume), ZONEFS_OK);
-  size = size_now();
-
-  /* of the next two blocks only one lands: the zone's record has the pointer behind it, and that of another zone is refused */
-  step("append 8192", append(size, 8192), ZONEFS_OK);
-  step("append while it is outstanding", append(size, 8192), ZONEFS_BUSY);
-  step("it failed, with zone 4's record", append_failed(4, 14, 0), ZONEFS_BAD_RECORD);
-  step("the disk failed halfway", append_failed(3, 2, 3ull * ZONE_SECTORS + (size + BLOCK) / SECTOR), ZONEFS_FAILED);
+  /* each answer has the command for the disk: here it does them */
+  keep_two_files_busy(size);
+  size += 8192;
+  fail_halfway(size);
 
   /* the size is what is on the disk, so the rest is appended there */
-  step("append where it had been", append(size, 4096), ZONEFS_MISPLACED);
-  size = size_now();
-  step("append 4096", append(size, 4096), ZONEFS_OK);
-  step("the disk did it", zonefs_volume_complete(&volume), ZONEFS_OK);
-  if (size_now() != 20480) {
+  step("append where it had been", append(0, size, 4096), ZONEFS_MISPLACED);
+  size = size_now("show seq/0", 0);
+  step("append 4096 to seq/0", append(0, size, 4096), ZONEFS_OK);
+  step("seq/0's append is done", done(0), ZONEFS_OK);
+  if (size_now("show seq/0", 0) != 20480) {
     printf("the file should have five blocks\n");
     return 1;
   }

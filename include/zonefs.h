@@ -9,14 +9,17 @@
  *   zonefs_format, zonefs_super_fields                  make a disk's first bytes, or read the values in them; no mount is needed
  *   zonefs_mount                                        once, with the disk's first bytes and its zone report
  *   zonefs_read, _write, _truncate, _flush              refused, answered at once, or a command for the disk, which is then outstanding
- *   zonefs_complete, zonefs_fail                        the outstanding command was done, or failed; the next call may follow
+ *   zonefs_complete, zonefs_fail                        a file's outstanding command was done, or failed; its next call may follow
  *   zonefs_find, zonefs_show                            look up a name or a file, at any time
+ *
+ * Each file may have one command outstanding, any number of files at once, and they end in any order.
  *
  * The library keeps nothing: no heap, no globals, no input or output. What it knows of a mounted volume lives in memory
  * that the caller lends to each call:
  *
- *   mount words   ZONEFS_MOUNT_WORDS words of 64 bits, written by zonefs_mount and changed by the calls; keep them as they are
- *   cnv, seq      a table for the files of each kind, ZONEFS_ROW_WORDS words of 64 bits for each file
+ *   mount words   ZONEFS_MOUNT_WORDS words of 64 bits, written by zonefs_mount; zonefs_fail may set their read-only mark; keep them as they are
+ *   cnv, seq      a table for the files of each kind, ZONEFS_ROW_WORDS words of 64 bits for each file, with the command that it has outstanding;
+ *                 written by zonefs_mount, and changed by the calls and by what ends their commands
  *   answer words  ZONEFS_ANSWER_WORDS words of 64 bits, overwritten with what the call answers beside its number
  *
  * Every slice is lent as a pointer and the number of its elements. The pointer must not be null, also where the number is 0, and must be
@@ -45,8 +48,8 @@ extern "C" {
 #endif
 
 /* The words of a mount value, of a row, and of an answer. */
-#define ZONEFS_MOUNT_WORDS 16
-#define ZONEFS_ROW_WORDS 5
+#define ZONEFS_MOUNT_WORDS 10
+#define ZONEFS_ROW_WORDS 8
 #define ZONEFS_ANSWER_WORDS 7
 
 /* The most files of a kind, so that tables of this many rows are always long enough. */
@@ -66,13 +69,13 @@ extern "C" {
 enum {
   ZONEFS_OK = 0,
   ZONEFS_NO_FILE = 1,             /* no such file or name */
-  ZONEFS_BUSY = 2,                /* a command is outstanding */
+  ZONEFS_BUSY = 2,                /* the file has a command outstanding */
   ZONEFS_READ_ONLY = 3,           /* the mount is read-only */
   ZONEFS_DENIED = 4,              /* access too low; truncating cnv, or to neither 0 nor capacity */
   ZONEFS_BEYOND_CAPACITY = 5,     /* offset + length above capacity */
   ZONEFS_MISPLACED = 6,           /* seq write off the block, or offset other than the size */
   ZONEFS_FAILED = 7,              /* the disk failed it, and that was digested; one value: the file's new size */
-  ZONEFS_NOTHING_OUTSTANDING = 8, /* completion with nothing outstanding */
+  ZONEFS_NOTHING_OUTSTANDING = 8, /* completion of a file that has nothing outstanding */
   ZONEFS_BAD_RECORD = 9,          /* the failed completion's zone record doesn't fit; the command stays outstanding; one value: the reason */
   ZONEFS_IMPOSSIBLE = 10,         /* mount value or tables impossible, or words or tables too short; a uuid or a label buffer of another length */
   ZONEFS_BAD_BLOCK = 20,          /* block neither 512 nor 4096 */
@@ -122,7 +125,7 @@ enum {
 /* Kinds of files, as an argument and as a value. */
 enum { ZONEFS_CNV = 0, ZONEFS_SEQ = 1 };
 
-/* Commands to the disk, as a value. */
+/* Commands to the disk, as a value and, with 1 added, in a row. */
 enum {
   ZONEFS_COMMAND_READ = 0,
   ZONEFS_COMMAND_WRITE = 1,
@@ -192,18 +195,24 @@ enum {
 /* How many values a call answers beside 0: it is over at once, or a command is to be done. */
 enum { ZONEFS_AT_ONCE = 1, ZONEFS_COMMANDED = 3 };
 
-/* The words of a row. */
+/*
+ * The words of a row. The last three are the command that the file has outstanding. A call that gives a command stores it there; a mount, and a
+ * command that is no longer outstanding, leave 0 in all three. Where ZONEFS_ROW_HELD is 0, the two after it are not looked at, whatever they are.
+ */
 enum {
-  ZONEFS_ROW_START = 0,     /* the first sector */
-  ZONEFS_ROW_CAPACITY = 1,  /* in bytes */
-  ZONEFS_ROW_SIZE = 2,      /* in bytes */
+  ZONEFS_ROW_START = 0,        /* the first sector */
+  ZONEFS_ROW_CAPACITY = 1,     /* in bytes */
+  ZONEFS_ROW_SIZE = 2,         /* in bytes */
   ZONEFS_ROW_CONDITION = 3,
-  ZONEFS_ROW_ACCESS = 4
+  ZONEFS_ROW_ACCESS = 4,
+  ZONEFS_ROW_HELD = 5,         /* 0 where nothing is outstanding, else 1 + ZONEFS_COMMAND_READ to 1 + ZONEFS_COMMAND_FLUSH */
+  ZONEFS_ROW_HELD_ADDRESS = 6, /* in bytes from the start of the disk */
+  ZONEFS_ROW_HELD_LENGTH = 7   /* in bytes, 0 but for reads and writes */
 };
 
 /*
- * The words of a mount value. Words hold none where a number of 32 bits is above 0xFFFFFFFF, a mark above 1, or a code none of its codes.
- * A mount, and a command that is no longer outstanding, leave 0 in the words from ZONEFS_MOUNT_HELD_KIND on.
+ * The words of a mount value. Words hold none where a number of 32 bits is above 0xFFFFFFFF, the mark above 1, or the policy none of its codes.
+ * All but the mark stay as the mount has set them.
  */
 enum {
   ZONEFS_MOUNT_BLOCK = 0,
@@ -215,13 +224,7 @@ enum {
   ZONEFS_MOUNT_POLICY = 6,        /* ZONEFS_REMOUNT_RO to ZONEFS_REPAIR */
   ZONEFS_MOUNT_UUID_LOW = 7,      /* bytes 0 to 7 of the uuid, the first lowest */
   ZONEFS_MOUNT_UUID_HIGH = 8,     /* bytes 8 to 15 */
-  ZONEFS_MOUNT_READ_ONLY = 9,     /* 1 where the mount is read-only */
-  ZONEFS_MOUNT_OUTSTANDING = 10,  /* 1 where a command is outstanding: on which file, and which */
-  ZONEFS_MOUNT_HELD_KIND = 11,
-  ZONEFS_MOUNT_HELD_NUMBER = 12,  /* 32 bits */
-  ZONEFS_MOUNT_HELD_COMMAND = 13,
-  ZONEFS_MOUNT_HELD_ADDRESS = 14,
-  ZONEFS_MOUNT_HELD_LENGTH = 15
+  ZONEFS_MOUNT_READ_ONLY = 9      /* 1 where the mount is read-only */
 };
 
 /*
@@ -282,10 +285,10 @@ uint64_t zonefs_super_fields(const uint8_t *superblock, size_t superblock_bytes,
  * are up to 255 bytes without a final zero: errors=remount-ro, errors=zone-ro, errors=zone-offline or errors=repair; of several, split by
  * commas, the last counts, and of none errors=remount-ro. The report is one piece from the first zone on, and its length is exactly
  * ZONEFS_HEADER_BYTES + ZONEFS_ZONE_BYTES for each zone that its header counts.
- * Writes the rows of the files to the front of both tables, and the mount words.
+ * Writes the rows of the files to the front of both tables, with nothing outstanding, and the mount words.
  * Returns 0, with two values, the numbers of cnv and of seq files; or 10 (mount or answer words too short), 20 to 30, 33; 29 with two values,
  * the lowest number of a bad zone and its reason. Refused by 20 to 30 or 33, the tables are as they were, and the mount words are all 0, with
- * which every call answers 10 and every completion 8.
+ * which every call and every completion answers 10.
  */
 uint64_t zonefs_mount(uint64_t block, const uint8_t *superblock, size_t superblock_bytes, const uint8_t *options,
                       size_t options_bytes, const uint8_t *report, size_t report_bytes, uint64_t *cnv, size_t cnv_words,
@@ -293,62 +296,70 @@ uint64_t zonefs_mount(uint64_t block, const uint8_t *superblock, size_t superblo
                       size_t answer_words);
 
 /*
- * Finds a name such as "seq/12", given without a final zero. Reads mount words and tables; writes the answer words only.
+ * Finds a name such as "seq/12", given without a final zero. Reads mount words and tables; writes the answer words only. Here and in showing it
+ * does not matter what is outstanding.
  * Returns 0, with two values, the kind and the number of the file; or 1, 10.
  */
 uint64_t zonefs_find(const uint64_t *mount, size_t mount_words, const uint64_t *cnv, size_t cnv_words, const uint64_t *seq,
                      size_t seq_words, const uint8_t *name, size_t name_bytes, uint64_t *answer, size_t answer_words);
 
 /*
- * Shows a file. Reads mount words and tables; writes the answer words only. Here as in the calls, a kind above 1 is no file's.
+ * Shows a file. Reads mount words and tables; writes the answer words only. Here as in the calls and completions, a kind above 1 is no file's.
  * Returns 0, with six values, start in sectors, capacity, size, condition, access, and the mode shown; or 1, 10.
  */
 uint64_t zonefs_show(const uint64_t *mount, size_t mount_words, const uint64_t *cnv, size_t cnv_words, const uint64_t *seq,
                      size_t seq_words, uint32_t kind, uint32_t number, uint64_t *answer, size_t answer_words);
 
 /*
- * The calls. Each reads mount words and tables, and writes the answer words and, of the mount words, those from ZONEFS_MOUNT_READ_ONLY on.
+ * The calls. Each reads mount words and tables, and writes the answer words and, where it gives a command, the words from ZONEFS_ROW_HELD on of
+ * the named file's row.
  * Returns 0 with one value (ZONEFS_AT_ONCE), where it is answered at once: the count, always 0; or 0 with three values (ZONEFS_COMMANDED),
- * where a command is to be done: the command, its byte address and its byte length. Such a command is outstanding, until zonefs_complete or
- * zonefs_fail. Or returns 1 to 6, 10, with no value, and every mount word is as it was, as it is where the call is answered at once.
+ * where a command is to be done: the command, its byte address and its byte length. The file then has this command outstanding, until
+ * zonefs_complete or zonefs_fail of this file. Or returns 1 to 6, 10, with no value. Answered at once or refused, mount words and tables are as
+ * they were.
+ * 2 is about the named file alone, whatever others have outstanding, and comes from any ZONEFS_ROW_HELD but 0, be it a command or not.
  * A read is cut at the file's size. A seq file is written at its size only, in whole blocks. A read, or a write to a cnv file, has no
  * alignment, and then neither has its command.
  */
-uint64_t zonefs_read(uint64_t *mount, size_t mount_words, const uint64_t *cnv, size_t cnv_words, const uint64_t *seq,
-                     size_t seq_words, uint32_t kind, uint32_t number, uint64_t offset, uint64_t length, uint64_t *answer,
+uint64_t zonefs_read(uint64_t *mount, size_t mount_words, uint64_t *cnv, size_t cnv_words, uint64_t *seq, size_t seq_words,
+                     uint32_t kind, uint32_t number, uint64_t offset, uint64_t length, uint64_t *answer,
                      size_t answer_words);
 
-uint64_t zonefs_write(uint64_t *mount, size_t mount_words, const uint64_t *cnv, size_t cnv_words, const uint64_t *seq,
+uint64_t zonefs_write(uint64_t *mount, size_t mount_words, uint64_t *cnv, size_t cnv_words, uint64_t *seq,
                       size_t seq_words, uint32_t kind, uint32_t number, uint64_t offset, uint64_t length, uint64_t *answer,
                       size_t answer_words);
 
 /* Seq files only, to the size 0 (a reset) or to the capacity (a finish). */
-uint64_t zonefs_truncate(uint64_t *mount, size_t mount_words, const uint64_t *cnv, size_t cnv_words, const uint64_t *seq,
+uint64_t zonefs_truncate(uint64_t *mount, size_t mount_words, uint64_t *cnv, size_t cnv_words, uint64_t *seq,
                          size_t seq_words, uint32_t kind, uint32_t number, uint64_t size, uint64_t *answer,
                          size_t answer_words);
 
-uint64_t zonefs_flush(uint64_t *mount, size_t mount_words, const uint64_t *cnv, size_t cnv_words, const uint64_t *seq,
+uint64_t zonefs_flush(uint64_t *mount, size_t mount_words, uint64_t *cnv, size_t cnv_words, uint64_t *seq,
                       size_t seq_words, uint32_t kind, uint32_t number, uint64_t *answer, size_t answer_words);
 
 /*
- * The outstanding command was done, all of it. Reads mount words and tables, and writes one row of a table at most, the answer words and, of
- * the mount words, those from ZONEFS_MOUNT_READ_ONLY on.
- * Returns 0 with one value, the bytes read or written, else 0; or 8, 10, with nothing changed.
+ * The command that the file has outstanding was done, all of it. Reads mount words and tables, and writes the answer words and, where it returns
+ * 0, the named file's row, in which nothing is outstanding any more.
+ * Returns 0 with one value, the bytes read or written, else 0; or, in this order, 10 (mount words, or too few rows), 1, 8, 10 (the row; or what
+ * it has outstanding is no command, or one that no call on such a row gives), with no value, and mount words and tables are as they were. The
+ * read-only mark is not looked at: where another file's failure has set it since, the command ends as usual.
  */
 uint64_t zonefs_complete(uint64_t *mount, size_t mount_words, uint64_t *cnv, size_t cnv_words, uint64_t *seq,
-                         size_t seq_words, uint64_t *answer, size_t answer_words);
+                         size_t seq_words, uint32_t kind, uint32_t number, uint64_t *answer, size_t answer_words);
 
 /*
- * The outstanding command failed; a read or write of the disk that came out short counts as failed. The record is the 64 bytes of the zone at
- * the command's address, as it is after the failure: also in a cnv file of several zones it is the one in which the command begins.
- * capacity_given is 0 where the record states no capacity, and anything else where it does: the flags of the report that the record came
- * with. Reads and writes as zonefs_complete does.
- * Returns 7 with one value, the file's size now, and nothing is outstanding any more; or 8, 9, 10, with nothing changed. A record that is not
- * 64 bytes long answers 9, and so does one that does not fit the file, with one value, the reason; the command then stays outstanding.
+ * The command that the file has outstanding failed; a read or write of the disk that came out short counts as failed. The record is the 64 bytes
+ * of the zone at the command's address, as it is after the failure: also in a cnv file of several zones it is the one in which the command
+ * begins. capacity_given is 0 where the record states no capacity, and anything else where it does: the flags of the report that the record came
+ * with. Reads mount words and tables, and writes the answer words and, where it returns 7, the named file's row, in which nothing is outstanding
+ * any more, and ZONEFS_MOUNT_READ_ONLY. What other files have outstanding stays so, also where the whole mount becomes read-only.
+ * Returns 7 with one value, the file's size now; or, in the order of zonefs_complete, 10, 1, 8, 10, with no value, and then 9 with one value, the
+ * reason: the record is not 64 bytes long, or does not fit the file. But for 7, mount words and tables are as they were, and the command stays
+ * outstanding.
  */
 uint64_t zonefs_fail(uint64_t *mount, size_t mount_words, uint64_t *cnv, size_t cnv_words, uint64_t *seq, size_t seq_words,
-                     const uint8_t *record, size_t record_bytes, uint32_t capacity_given, uint64_t *answer,
-                     size_t answer_words);
+                     uint32_t kind, uint32_t number, const uint8_t *record, size_t record_bytes, uint32_t capacity_given,
+                     uint64_t *answer, size_t answer_words);
 
 /*
  * The checksum of bytes: reflected CRC-32, polynomial 0xEDB88320, start all ones, no final inversion. A super block's checksum is that of its

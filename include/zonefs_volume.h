@@ -3,7 +3,7 @@
  * functions do all the work, and zonefs.h says what each reads, writes and answers; nothing of an answer is lost here.
  *
  * A volume holds the mount words, and points to two tables that the caller lends. So the caller chooses the room: a few rows in firmware,
- * ZONEFS_MOST_FILES rows of each kind where any disk has to fit. Tables inside the struct would make every volume 82 kilobytes long.
+ * ZONEFS_MOST_FILES rows of each kind where any disk has to fit. Tables inside the struct would make every volume 131 kilobytes long.
  *
  *   static uint64_t cnv[ROWS * ZONEFS_ROW_WORDS], seq[ROWS * ZONEFS_ROW_WORDS];
  *   static struct zonefs_volume volume;
@@ -11,9 +11,11 @@
  *   zonefs_volume_lend(&volume, cnv, ROWS * ZONEFS_ROW_WORDS, seq, ROWS * ZONEFS_ROW_WORDS);
  *   answer = zonefs_volume_mount(&volume, 4096, first_bytes, 4096, "errors=repair", report, report_bytes);
  *
- * Until it is mounted, and after a refused mount, a volume answers as the plain functions do with mount words of 0: 10 to a call, to finding and
- * to showing, 8 to a completion. That holds before zonefs_volume_lend too, if the struct is all zero, as a static one is; it has no rows then. A
- * table with a null pointer always has none. A copy of the struct is no second volume: both would change the same tables.
+ * Each file may have one command outstanding, any number of files at once; a completion names the file whose command has ended.
+ *
+ * Until it is mounted, and after a refused mount, a volume answers as the plain functions do with mount words of 0: 10 to a call, a completion,
+ * finding and showing. That holds before zonefs_volume_lend too, if the struct is all zero, as a static one is; it has no rows then. A table with
+ * a null pointer always has none. A copy of the struct is no second volume: both would change the same tables.
  *
  * A disk that has never been mounted needs a super block first. zonefs_volume_format makes one from a struct of its values, and
  * zonefs_volume_super_fields reads them back; neither takes a volume.
@@ -28,8 +30,8 @@ extern "C" {
 #endif
 
 struct zonefs_volume {
-  uint64_t mount[ZONEFS_MOUNT_WORDS]; /* ZONEFS_MOUNT_BLOCK to ZONEFS_MOUNT_HELD_LENGTH, to be read by anyone */
-  uint64_t *cnv;
+  uint64_t mount[ZONEFS_MOUNT_WORDS]; /* ZONEFS_MOUNT_BLOCK to ZONEFS_MOUNT_READ_ONLY, to be read by anyone */
+  uint64_t *cnv;                      /* rows of ZONEFS_ROW_START to ZONEFS_ROW_HELD_LENGTH, to be read by anyone */
   size_t cnv_words;
   uint64_t *seq;
   size_t seq_words;
@@ -54,7 +56,7 @@ enum zonefs_volume_outcome {
   ZONEFS_VOLUME_REFUSED = 0, /* the number says why; nothing changed, but for the mount words of a refused mount */
   ZONEFS_VOLUME_FAILED = 1,  /* number 7: the disk failed the command, and that was digested */
   ZONEFS_VOLUME_DONE = 2,    /* the call is over: at once, or because its command was completed */
-  ZONEFS_VOLUME_COMMAND = 3, /* the disk is to do a command, which is outstanding until zonefs_volume_complete or zonefs_volume_fail */
+  ZONEFS_VOLUME_COMMAND = 3, /* the disk is to do a command, which is outstanding until zonefs_volume_complete or zonefs_volume_fail of its file */
   ZONEFS_VOLUME_MOUNTED = 4,
   ZONEFS_VOLUME_FOUND = 5,
   ZONEFS_VOLUME_SHOWN = 6,
@@ -94,13 +96,13 @@ static inline const char *zonefs_volume_refusal_text(uint64_t number) {
   switch (number) {
   case ZONEFS_OK: return "not refused";
   case ZONEFS_NO_FILE: return "no such file or name";
-  case ZONEFS_BUSY: return "a command is outstanding";
+  case ZONEFS_BUSY: return "the file has a command outstanding";
   case ZONEFS_READ_ONLY: return "the mount is read-only";
   case ZONEFS_DENIED: return "access too low, or truncation of a cnv file or to neither 0 nor capacity";
   case ZONEFS_BEYOND_CAPACITY: return "offset + length above capacity";
   case ZONEFS_MISPLACED: return "write to a seq file off the block or not at its size";
   case ZONEFS_FAILED: return "the disk failed it";
-  case ZONEFS_NOTHING_OUTSTANDING: return "completion with nothing outstanding";
+  case ZONEFS_NOTHING_OUTSTANDING: return "the file has nothing outstanding";
   case ZONEFS_BAD_RECORD: return "the zone record does not fit; the command stays outstanding";
   case ZONEFS_IMPOSSIBLE: return "mount words or tables impossible or too short";
   case ZONEFS_BAD_BLOCK: return "block neither 512 nor 4096";
@@ -197,6 +199,24 @@ static inline struct zonefs_volume_answer zonefs_volume_answer_of_show(uint64_t 
   return a;
 }
 
+static inline struct zonefs_volume_answer zonefs_volume_answer_with_command(uint64_t command, uint64_t address, uint64_t length) {
+  struct zonefs_volume_answer a = zonefs_volume_answer_bare(ZONEFS_OK);
+  a.outcome = ZONEFS_VOLUME_COMMAND;
+  a.command = (uint32_t)command;
+  a.address = address;
+  a.length = length;
+  return a;
+}
+
+/* of what a row has outstanding */
+static inline struct zonefs_volume_answer zonefs_volume_answer_of_row(const uint64_t *row) {
+  if (row[ZONEFS_ROW_HELD] == 0)
+    return zonefs_volume_answer_bare(ZONEFS_NOTHING_OUTSTANDING);
+  if (row[ZONEFS_ROW_HELD] - 1 > ZONEFS_COMMAND_FLUSH)
+    return zonefs_volume_answer_bare(ZONEFS_IMPOSSIBLE);
+  return zonefs_volume_answer_with_command(row[ZONEFS_ROW_HELD] - 1, row[ZONEFS_ROW_HELD_ADDRESS], row[ZONEFS_ROW_HELD_LENGTH]);
+}
+
 /* of a call or a completion */
 static inline struct zonefs_volume_answer zonefs_volume_answer_of_call(uint64_t number, const uint64_t *words) {
   struct zonefs_volume_answer a = zonefs_volume_answer_bare(number);
@@ -206,10 +226,7 @@ static inline struct zonefs_volume_answer zonefs_volume_answer_of_call(uint64_t 
   } else if (number == ZONEFS_BAD_RECORD) {
     a.reason = (uint32_t)words[ZONEFS_ANSWER_RECORD_REASON];
   } else if (number == ZONEFS_OK && words[ZONEFS_ANSWER_VALUES] == ZONEFS_COMMANDED) {
-    a.outcome = ZONEFS_VOLUME_COMMAND;
-    a.command = (uint32_t)words[ZONEFS_ANSWER_COMMAND];
-    a.address = words[ZONEFS_ANSWER_ADDRESS];
-    a.length = words[ZONEFS_ANSWER_LENGTH];
+    a = zonefs_volume_answer_with_command(words[ZONEFS_ANSWER_COMMAND], words[ZONEFS_ANSWER_ADDRESS], words[ZONEFS_ANSWER_LENGTH]);
   } else if (number == ZONEFS_OK) {
     a.outcome = ZONEFS_VOLUME_DONE;
     a.count = words[ZONEFS_ANSWER_COUNT];
@@ -235,7 +252,7 @@ static inline size_t zonefs_volume_label_bytes(const char *label) {
 
 /*
  * What a volume lends to a plain function. The library takes no null pointer: for a table of no words the mount words' address stands in, of
- * which it then reads none.
+ * which it then reads and writes none.
  */
 #define ZONEFS_VOLUME_TABLE(table, words) ((table) != NULL ? (table) : volume->mount), ((table) != NULL ? (words) : 0)
 #define ZONEFS_VOLUME_TABLES ZONEFS_VOLUME_TABLE(volume->cnv, volume->cnv_words), ZONEFS_VOLUME_TABLE(volume->seq, volume->seq_words)
@@ -325,7 +342,19 @@ static inline struct zonefs_volume_answer zonefs_volume_show(const struct zonefs
   return zonefs_volume_answer_of_show(answered, words);
 }
 
-/* The calls: DONE, COMMAND, or refused by 1 to 6, 10. */
+/*
+ * What a file has outstanding, as its row has it: COMMAND, as the call gave it; or refused by 1, 10 as showing is, by 8 where the file has nothing
+ * outstanding, by 10 where what its row holds is no command. So a program that kept mount words and tables need not keep the commands beside them.
+ */
+static inline struct zonefs_volume_answer zonefs_volume_outstanding(const struct zonefs_volume *volume, uint32_t kind,
+                                                                    uint32_t number) {
+  struct zonefs_volume_answer shown = zonefs_volume_show(volume, kind, number);
+  if (shown.number != ZONEFS_OK)
+    return shown;
+  return zonefs_volume_answer_of_row((kind == ZONEFS_CNV ? volume->cnv : volume->seq) + (size_t)number * ZONEFS_ROW_WORDS);
+}
+
+/* The calls: DONE, COMMAND, or refused by 1 to 6, 10; by 2 where this file has a command outstanding, whatever others have. */
 static inline struct zonefs_volume_answer zonefs_volume_read(struct zonefs_volume *volume, uint32_t kind, uint32_t number,
                                                              uint64_t offset, uint64_t length) {
   uint64_t words[ZONEFS_ANSWER_WORDS] = {0};
@@ -353,24 +382,24 @@ static inline struct zonefs_volume_answer zonefs_volume_flush(struct zonefs_volu
   return zonefs_volume_answer_of_call(answered, words);
 }
 
-/* The outstanding command was done, all of it: DONE, or refused by 8, 10. */
-static inline struct zonefs_volume_answer zonefs_volume_complete(struct zonefs_volume *volume) {
+/* The command that the file has outstanding was done, all of it: DONE, or refused by 1, 8, 10. */
+static inline struct zonefs_volume_answer zonefs_volume_complete(struct zonefs_volume *volume, uint32_t kind, uint32_t number) {
   uint64_t words[ZONEFS_ANSWER_WORDS] = {0};
-  uint64_t number = zonefs_complete(ZONEFS_VOLUME_LENT, words, ZONEFS_ANSWER_WORDS);
-  return zonefs_volume_answer_of_call(number, words);
+  uint64_t answered = zonefs_complete(ZONEFS_VOLUME_LENT, kind, number, words, ZONEFS_ANSWER_WORDS);
+  return zonefs_volume_answer_of_call(answered, words);
 }
 
 /*
- * The outstanding command failed: FAILED, or refused by 8, 9 with a reason, 10. The record is that of the zone at the command's address, as
- * it is after the failure: a struct blk_zone as it comes, or any 64 bytes laid out like it; capacity_given is the flags of the report that it
- * came with.
+ * The command that the file has outstanding failed: FAILED, or refused by 1, 8, 9 with a reason, 10. The record is that of the zone at the
+ * command's address, as it is after the failure: a struct blk_zone as it comes, or any 64 bytes laid out like it; capacity_given is the flags of
+ * the report that it came with.
  */
-static inline struct zonefs_volume_answer zonefs_volume_fail(struct zonefs_volume *volume, const void *record,
-                                                             size_t record_bytes, uint32_t capacity_given) {
+static inline struct zonefs_volume_answer zonefs_volume_fail(struct zonefs_volume *volume, uint32_t kind, uint32_t number,
+                                                             const void *record, size_t record_bytes, uint32_t capacity_given) {
   uint64_t words[ZONEFS_ANSWER_WORDS] = {0};
-  uint64_t number = zonefs_fail(ZONEFS_VOLUME_LENT, (const uint8_t *)record, record_bytes, capacity_given, words,
-                                ZONEFS_ANSWER_WORDS);
-  return zonefs_volume_answer_of_call(number, words);
+  uint64_t answered = zonefs_fail(ZONEFS_VOLUME_LENT, kind, number, (const uint8_t *)record, record_bytes, capacity_given, words,
+                                  ZONEFS_ANSWER_WORDS);
+  return zonefs_volume_answer_of_call(answered, words);
 }
 
 #undef ZONEFS_VOLUME_TABLE

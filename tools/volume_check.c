@@ -1,8 +1,8 @@
 /*
  * Compares the functions of zonefs_volume.h with the plain ones of zonefs.h, call by call, on a small volume: every number that the library
- * has, every reason of 29 and 9, each command, and answers at once. Of each answer all fields are compared, and all words, rows and bytes that
- * both leave. Words of answers are counted out here, not named, so that a wrong name in the header shows. C99 and C++11. Ends with status 1
- * at the first difference.
+ * has, every reason of 29 and 9, each command, answers at once, several files busy at once, and rows that hold anything. Of each answer all fields
+ * are compared, and all words, rows and bytes that both leave. Words of answers and rows are counted out here, not named, so that a
+ * wrong name in the header shows. C99 and C++11. Ends with status 1 at the first difference.
  */
 #include <stdio.h>
 #include <stdlib.h>
@@ -13,8 +13,9 @@
 #define BLOCK 4096u
 #define LENGTH 1024u  /* sectors of each zone */
 #define CAPACITY 768u /* sectors of each sequential zone */
-#define CNV_WORDS 10u /* two files */
-#define SEQ_WORDS 15u /* three files, so that the tables cannot be taken for one another */
+#define ROW 8u                /* words of a row */
+#define CNV_WORDS (2u * ROW) /* two files */
+#define SEQ_WORDS (3u * ROW) /* three files, so that the tables cannot be taken for one another */
 #define BYTES(sectors) ((uint64_t)(sectors) * 512u)
 #define UNTOUCHED 0xA5 /* fills what is lent, to see what was written */
 
@@ -25,7 +26,7 @@
 #endif
 
 /* the same volume twice: as the plain functions have it, and as a struct */
-static uint64_t mount_words[16], cnv[CNV_WORDS], seq[SEQ_WORDS], words[7];
+static uint64_t mount_words[10], cnv[CNV_WORDS], seq[SEQ_WORDS], words[7];
 static uint64_t volume_cnv[CNV_WORDS], volume_seq[SEQ_WORDS];
 static size_t cnv_words, seq_words;
 static struct zonefs_volume volume;
@@ -154,7 +155,7 @@ static void compare(const char *what, enum function f, uint64_t number, struct z
   need(got.start == a.start && got.capacity == a.capacity, what, "start or capacity");
   need(got.condition == a.condition && got.access == a.access && got.mode == a.mode, what, "condition, access or mode");
   need(got.finish == a.finish, what, "finish");
-  need(same_words(mount_words, volume.mount, 16), what, "the mount words");
+  need(same_words(mount_words, volume.mount, 10), what, "the mount words");
   need(same_words(cnv, volume_cnv, CNV_WORDS) && same_words(seq, volume_seq, SEQ_WORDS), what, "the tables");
   compared++;
   seen[number]++;
@@ -166,7 +167,7 @@ static void compare(const char *what, enum function f, uint64_t number, struct z
 
 /* ---- each function both ways */
 
-#define PLAIN mount_words, 16, cnv, cnv_words, seq, seq_words
+#define PLAIN mount_words, 10, cnv, cnv_words, seq, seq_words
 
 static void lend(size_t cnv_room, size_t seq_room) {
   cnv_words = cnv_room;
@@ -177,7 +178,7 @@ static void lend(size_t cnv_room, size_t seq_room) {
 
 static void mount_of(const char *what, uint64_t block, size_t super_bytes, const char *options, size_t bytes, uint64_t expected) {
   uint64_t number = zonefs_mount(block, super_block, super_bytes, (const uint8_t *)options, strlen(options), report, bytes, cnv,
-                                 cnv_words, seq, seq_words, mount_words, 16, words, 7);
+                                 cnv_words, seq, seq_words, mount_words, 10, words, 7);
   compare(what, MOUNT, number, zonefs_volume_mount(&volume, block, super_block, super_bytes, options, report, bytes), expected);
 }
 
@@ -218,14 +219,14 @@ static void flush_of(uint32_t kind, uint32_t file, uint64_t expected) {
   compare("flush", CALL, number, zonefs_volume_flush(&volume, kind, file), expected);
 }
 
-static void complete(uint64_t expected) {
-  uint64_t number = zonefs_complete(PLAIN, words, 7);
-  compare("complete", COMPLETION, number, zonefs_volume_complete(&volume), expected);
+static void complete(uint32_t kind, uint32_t file, uint64_t expected) {
+  uint64_t number = zonefs_complete(PLAIN, kind, file, words, 7);
+  compare("complete", COMPLETION, number, zonefs_volume_complete(&volume, kind, file), expected);
 }
 
-static void fail(size_t bytes, uint32_t given, uint64_t expected) {
-  uint64_t number = zonefs_fail(PLAIN, record, bytes, given, words, 7);
-  compare("fail", COMPLETION, number, zonefs_volume_fail(&volume, record, bytes, given), expected);
+static void fail(uint32_t kind, uint32_t file, size_t bytes, uint32_t given, uint64_t expected) {
+  uint64_t number = zonefs_fail(PLAIN, kind, file, record, bytes, given, words, 7);
+  compare("fail", COMPLETION, number, zonefs_volume_fail(&volume, kind, file, record, bytes, given), expected);
 }
 
 static int untouched(const void *bytes, size_t count) {
@@ -268,7 +269,7 @@ static void fields_of(const char *what, size_t bytes, uint64_t expected, struct 
 
 /* ---- the cases */
 
-/* 10 from all, 8 from completions: nothing is mounted */
+/* 10 from all: nothing is mounted */
 static void try_unmounted(void) {
   find("seq/0", 10);
   show(1, 0, 10);
@@ -276,8 +277,10 @@ static void try_unmounted(void) {
   write_of(1, 0, 0, BLOCK, 10);
   truncate_of(1, 0, 0, 10);
   flush_of(1, 0, 10);
-  complete(8);
-  fail(64, 1, 8);
+  complete(1, 0, 10);
+  complete(2, 0, 10);
+  fail(1, 0, 64, 1, 10);
+  need(zonefs_volume_outstanding(&volume, 1, 0).number == 10, "unmounted", "what is outstanding");
 }
 
 static void try_refused_mounts(void) {
@@ -366,28 +369,28 @@ static void try_calls(void) {
   truncate_of(0, 0, 0, 4);
   truncate_of(1, 1, 0, 0);
   read_of(0, 1, 5, 700, 0);
-  write_of(1, 0, BLOCK, BLOCK, 2);
-  complete(0);
+  complete(0, 1, 0);
   write_of(1, 0, BLOCK, 2 * BLOCK, 0);
-  complete(0);
-  complete(8);
+  write_of(1, 0, BLOCK, BLOCK, 2);
+  complete(1, 0, 0);
+  complete(1, 0, 8);
   truncate_of(1, 0, BYTES(CAPACITY), 0);
-  complete(0);
+  complete(1, 0, 0);
   truncate_of(1, 0, 0, 0);
-  complete(0);
+  complete(1, 0, 0);
   flush_of(1, 0, 0);
-  complete(0);
+  complete(1, 0, 0);
   show(1, 0, 0);
 }
 
 /* 9 has one value. */
 static void refuse_record(const char *what, size_t bytes, uint32_t given, uint64_t reason) {
-  fail(bytes, given, 9);
+  fail(1, 0, bytes, given, 9);
   need(words[0] == 1 && words[1] == reason, what, "another reason than expected");
   record_reasons[words[1]]++;
 }
 
-/* the outstanding command is one on zone 3 */
+/* seq/0, which is zone 3, has a command outstanding */
 static void try_bad_records(void) {
   static const struct bad_field fields[] = {
       {"record's length", 3, 8, 8, LENGTH - 4, 2},
@@ -417,27 +420,188 @@ static void try_failures(void) {
   refuse_record("long record", 65, 1, 0);
   refuse_record("record without a capacity", 64, 0, 8); /* then it is the length, which is not the row's */
   lend(CNV_WORDS, SEQ_WORDS - 1);
-  complete(10);
-  fail(64, 1, 10);
+  complete(1, 0, 10);
+  fail(1, 0, 64, 1, 10);
   read_of(1, 0, 0, 1, 10);
   lend(CNV_WORDS - 1, SEQ_WORDS);
   find("seq/0", 10);
   show(1, 0, 10);
   lend(CNV_WORDS, SEQ_WORDS);
-  fail(64, 1, 7);
-  fail(64, 1, 8);
+  fail(1, 0, 64, 1, 7);
+  fail(1, 0, 64, 1, 8);
   show(1, 0, 0);
   write_of(1, 0, 2 * BLOCK, BLOCK, 3);
   read_of(1, 0, 0, BLOCK, 0);
   make_zone(record, 3, 2, 13, CAPACITY, 0);
-  fail(64, 1, 7);
+  fail(1, 0, 64, 1, 7);
   read_of(1, 0, 0, BLOCK, 0);
   make_zone(record, 3, 2, 2, CAPACITY, 16);
   refuse_record("record with a better condition", 64, 1, 9);
   make_zone(record, 3, 2, 15, CAPACITY, 0);
-  fail(64, 1, 7);
+  fail(1, 0, 64, 1, 7);
   show(1, 0, 0);
   read_of(1, 0, 0, 1, 4);
+}
+
+/* ---- several files at once, and what rows hold */
+
+static uint64_t *row_of(uint32_t kind, uint32_t file) {
+  return (kind == 0 ? cnv : seq) + file * ROW;
+}
+
+/* a word of a row, in both volumes */
+static void put_word(uint32_t kind, uint32_t file, unsigned at, uint64_t value) {
+  row_of(kind, file)[at] = value;
+  (kind == 0 ? volume_cnv : volume_seq)[file * ROW + at] = value;
+}
+
+static void put_held(uint32_t kind, uint32_t file, uint64_t held, uint64_t address, uint64_t length) {
+  put_word(kind, file, 5, held);
+  put_word(kind, file, 6, address);
+  put_word(kind, file, 7, length);
+}
+
+/* the last three words of a row, and what the struct makes of them: the codes of the five commands are 0 to 4, and a row has 1 more */
+static void need_held(const char *what, uint32_t kind, uint32_t file, uint64_t held, uint64_t address, uint64_t length) {
+  const uint64_t *row = row_of(kind, file);
+  struct zonefs_volume_answer a = zonefs_volume_outstanding(&volume, kind, file);
+  need(row[5] == held && row[6] == address && row[7] == length, what, "the row holds something else than expected");
+  need(a.number == (held == 0 ? 8u : held > 5 ? 10u : 0u), what, "another number of what is outstanding than expected");
+  need((a.outcome == ZONEFS_VOLUME_COMMAND) == (a.number == 0), what, "the outcome of what is outstanding");
+  need(a.number != 0 || (a.command == held - 1 && a.address == address && a.length == length), what, "what is outstanding");
+}
+
+static void need_idle(const char *what, uint32_t kind, uint32_t file) {
+  need_held(what, kind, file, 0, 0, 0);
+}
+
+/* 2 is about the named file, and so are 8 and 1 of a completion; what is busy ends in another order than it began */
+static void try_busy_files(void) {
+  mount_as("mount", "errors=repair", 0);
+  write_of(1, 0, BLOCK, 2 * BLOCK, 0);
+  read_of(0, 1, 5, 700, 0);
+  write_of(1, 1, 0, BLOCK, 0);
+  write_of(1, 0, BLOCK, BLOCK, 2);
+  flush_of(0, 1, 2);
+  need_held("write of seq/0", 1, 0, 2, BYTES(3 * LENGTH) + BLOCK, 2 * BLOCK);
+  need_held("read of cnv/1", 0, 1, 1, BYTES(2 * LENGTH) + 5, 700);
+  need_held("write of seq/1", 1, 1, 2, BYTES(4 * LENGTH), BLOCK);
+  need_idle("cnv/0 beside busy files", 0, 0);
+  complete(1, 2, 8);
+  fail(0, 0, 64, 1, 8);
+  complete(1, 3, 1);
+  complete(2, 0, 1);
+  fail(UINT32_MAX, 0, 64, 1, 1);
+  complete(1, 1, 0);
+  need(words[1] == BLOCK && row_of(1, 1)[2] == BLOCK, "write of seq/1", "another count or size than expected");
+  need_idle("seq/1 after its write", 1, 1);
+  need_held("write of seq/0, still", 1, 0, 2, BYTES(3 * LENGTH) + BLOCK, 2 * BLOCK);
+  truncate_of(1, 1, 0, 0);
+  complete(0, 1, 0);
+  need(words[1] == 700, "read of cnv/1", "another count than expected");
+  complete(1, 0, 0);
+  need(words[1] == 2 * BLOCK && row_of(1, 0)[2] == 3 * BLOCK, "write of seq/0", "another count or size than expected");
+  need_held("reset of seq/1", 1, 1, 3, BYTES(4 * LENGTH), 0);
+  complete(1, 1, 0);
+}
+
+/* each command as a row has it; all three files of the table are busy by then */
+static void try_held_commands(void) {
+  mount_as("mount", "errors=repair", 0);
+  truncate_of(1, 0, BYTES(CAPACITY), 0);
+  need_held("finish", 1, 0, 4, BYTES(3 * LENGTH), 0);
+  flush_of(1, 1, 0);
+  need_held("flush", 1, 1, 5, BYTES(4 * LENGTH), 0);
+  write_of(1, 2, 0, BLOCK, 0);
+  need_held("write", 1, 2, 2, BYTES(5 * LENGTH), BLOCK);
+  need(zonefs_volume_outstanding(&volume, 1, 3).number == 1, "no such file", "what is outstanding");
+  need(zonefs_volume_outstanding(&volume, 2, 0).number == 1, "no such kind", "what is outstanding");
+  find("seq/2", 0);
+  show(1, 2, 0);
+  make_zone(record, 3, 2, 2, CAPACITY, 8);
+  fail(1, 1, 64, 1, 9); /* seq/0's record, handed over for another file */
+  fail(1, 0, 64, 1, 7);
+  need_idle("failed finish", 1, 0);
+  need_held("flush, still", 1, 1, 5, BYTES(4 * LENGTH), 0);
+  complete(1, 1, 0);
+  complete(1, 2, 0);
+}
+
+/* a failure that makes the mount read-only leaves the other files' commands, which end as usual: also a write moves its size */
+static void try_busy_files_on_remount(void) {
+  mount_as("mount", "errors=remount-ro", 0);
+  write_of(1, 0, BLOCK, BLOCK, 0);
+  write_of(1, 1, 0, 2 * BLOCK, 0);
+  flush_of(1, 2, 0);
+  make_zone(record, 3, 2, 2, CAPACITY, 8);
+  fail(1, 0, 64, 1, 7);
+  need(mount_words[9] == 1, "remount", "the mount should be read-only");
+  need_held("write beside a failure", 1, 1, 2, BYTES(4 * LENGTH), 2 * BLOCK);
+  write_of(1, 0, BLOCK, BLOCK, 3);
+  write_of(1, 1, 0, BLOCK, 2);
+  complete(1, 1, 0);
+  need(words[1] == 2 * BLOCK && row_of(1, 1)[2] == 2 * BLOCK, "write on a read-only mount", "another count or size than expected");
+  complete(1, 2, 0);
+  need(mount_words[9] == 1, "remount", "the mount should still be read-only");
+}
+
+/* what a row holds is no command: outstanding to a call and for 8, impossible to a completion, and no matter to finding and showing */
+static void try_no_command(uint64_t held) {
+  put_held(1, 1, held, 5, 7);
+  read_of(1, 1, 0, 0, 2);
+  write_of(1, 1, 0, BLOCK, 2);
+  truncate_of(1, 1, 0, 2);
+  flush_of(1, 1, 2);
+  complete(1, 1, 10);
+  fail(1, 1, 64, 1, 10);
+  find("seq/1", 0);
+  show(1, 1, 0);
+  need_held("no command", 1, 1, held, 5, 7);
+}
+
+/* a command that no call on this row gives: outstanding to a call, impossible to a completion */
+static void try_misplaced_command(void) {
+  put_held(1, 1, 2, BYTES(4 * LENGTH) + BLOCK, BLOCK);
+  write_of(1, 1, 0, BLOCK, 2);
+  complete(1, 1, 10);
+  need_held("misplaced command", 1, 1, 2, BYTES(4 * LENGTH) + BLOCK, BLOCK);
+}
+
+/* nothing is held: the words after that are not looked at, and stay until a row is stored */
+static void try_idle_words(void) {
+  put_held(1, 1, 0, 5, 7);
+  complete(1, 1, 8);
+  truncate_of(1, 1, 0, 0);
+  write_of(1, 1, BLOCK, BLOCK, 6);
+  need_held("idle words", 1, 1, 0, 5, 7);
+  write_of(1, 1, 0, BLOCK, 0);
+  need_held("write over idle words", 1, 1, 2, BYTES(4 * LENGTH), BLOCK);
+  complete(1, 1, 0);
+  need_idle("write over idle words", 1, 1);
+}
+
+/* an impossible row: 10 before 2 in a call, 8 before 10 in a completion */
+static void try_impossible_rows(void) {
+  put_word(1, 1, 3, 3);
+  flush_of(1, 1, 10);
+  complete(1, 1, 8);
+  fail(1, 1, 64, 1, 8);
+  put_held(1, 1, 5, BYTES(4 * LENGTH), 0);
+  flush_of(1, 1, 10);
+  complete(1, 1, 10);
+  fail(1, 1, 64, 1, 10);
+  need(zonefs_volume_outstanding(&volume, 1, 1).number == 10, "impossible row", "what is outstanding");
+  put_word(1, 1, 3, 0);
+  complete(1, 1, 0);
+}
+
+static void try_held_words(void) {
+  mount_as("mount", "errors=repair", 0);
+  try_no_command(6);
+  try_no_command(UINT64_MAX);
+  try_misplaced_command();
+  try_idle_words();
+  try_impossible_rows();
 }
 
 /* values of which no two are the same, so that one in another's place shows */
@@ -669,6 +833,10 @@ int main(void) {
   try_bad_zones();
   try_calls();
   try_failures();
+  try_busy_files();
+  try_held_commands();
+  try_busy_files_on_remount();
+  try_held_words();
   try_refused_formats();
   try_bad_first_zones();
   try_finishing();

@@ -18,6 +18,13 @@ const ZONES: u64 = 1023;
 /// Sectors in each zone: room for all the appends of a round.
 const ZONE_SECTORS: u64 = 1 << 24;
 
+/// The library's code of the kind.
+const SEQ: u32 = 1;
+/// The seq file that is written where one is enough.
+const ONE_FILE: u32 = 7;
+/// The seq files that are busy at once.
+const BUSY_FILES: u32 = 500;
+
 const POLYNOMIAL: u32 = 0xEDB8_8320;
 
 const fn remainders() -> [u32; 256] {
@@ -95,9 +102,18 @@ impl Lent {
         )
     }
 
-    fn append(&mut self, offset: u64) -> u64 {
+    fn write(&mut self, file: u32, offset: u64) -> u64 {
         let Lent { mount, cnv, seq, answer } = self;
-        words::write(mount, cnv, seq, 1, 7, offset, BLOCK, answer) + words::complete(mount, cnv, seq, answer)
+        words::write(mount, cnv, seq, SEQ, file, offset, BLOCK, answer)
+    }
+
+    fn complete(&mut self, file: u32) -> u64 {
+        let Lent { mount, cnv, seq, answer } = self;
+        words::complete(mount, cnv, seq, SEQ, file, answer)
+    }
+
+    fn append(&mut self, offset: u64) -> u64 {
+        self.write(ONE_FILE, offset) + self.complete(ONE_FILE)
     }
 }
 
@@ -108,10 +124,18 @@ fn volume(input: &Input) -> Volume {
     Volume { mount, cnv, seq }
 }
 
-fn append(volume: &mut Volume, offset: u64) -> u64 {
+fn write(volume: &mut Volume, number: u32, offset: u64) {
     let request = Request::Write { offset, length: BLOCK };
-    volume.call(&Call { kind: FileKind::Sequential, number: 7, request }).expect("an append");
-    volume.succeed().expect("its completion")
+    volume.call(&Call { kind: FileKind::Sequential, number, request }).expect("an append");
+}
+
+fn complete(volume: &mut Volume, number: u32) -> u64 {
+    volume.succeed(FileKind::Sequential, number).expect("its completion")
+}
+
+fn append(volume: &mut Volume, offset: u64) -> u64 {
+    write(volume, ONE_FILE, offset);
+    complete(volume, ONE_FILE)
 }
 
 #[repr(C)]
@@ -253,6 +277,32 @@ fn appends(input: &Input) {
     line("a write with its completion, beside the reference", times[0], times[1], "   (target 0.80)");
 }
 
+/// Each file has a write outstanding, and only then they end, the last one first. A turn is one write with its completion.
+fn busy_appends(input: &Input) {
+    const PASSES: u64 = 40;
+    let mut lent = Lent::new();
+    assert_eq!(lent.mount(input), 0);
+    let fresh = volume(input);
+    let seq = lent.seq.clone();
+    let mut library = || {
+        lent.seq.copy_from_slice(&seq);
+        time(PASSES, |pass| {
+            (0..BUSY_FILES).for_each(|file| assert_eq!(black_box(lent.write(file, pass * BLOCK)), 0));
+            (0..BUSY_FILES).rev().for_each(|file| assert_eq!(black_box(lent.complete(file)), 0));
+        })
+    };
+    let mut held = fresh.clone();
+    let mut other = || {
+        held.seq.copy_from_slice(&fresh.seq);
+        time(PASSES, |pass| {
+            (0..BUSY_FILES).for_each(|file| write(&mut held, file, pass * BLOCK));
+            (0..BUSY_FILES).rev().for_each(|file| assert_eq!(black_box(complete(&mut held, file)), BLOCK));
+        })
+    };
+    let times = medians(PASSES * u64::from(BUSY_FILES), &mut [&mut library, &mut other]);
+    line("the same on 500 files busy at once, beside the reference", times[0], times[1], "");
+}
+
 fn main() {
     println!("{:<66} {:>13} {:>13}", "", "library", "other");
     let checksum = checksums();
@@ -260,4 +310,5 @@ fn main() {
     mounts(&input, checksum);
     formats(&input);
     appends(&input);
+    busy_appends(&input);
 }

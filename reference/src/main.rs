@@ -31,6 +31,8 @@ usage:
   reference --help                             shows this
 
 PLAYER is a program that takes a tape's file name as its only argument and prints the lines.
+Each file may have one command outstanding: on a tape OK and NO name their file, by a kind byte and a
+number of four bytes, as calls do, and both are printed behind the mark.
 Inputs for checksum are lines of hex digits, or with --binary a length (two bytes, little-endian)
 and as many bytes, over and over.
 The exit status is 0 if all went well, 1 if something failed, 2 for a wrong command line.

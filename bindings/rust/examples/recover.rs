@@ -1,10 +1,11 @@
-//! Mounts a volume, appends to a file, has the next append fail halfway, recovers, and goes on, as examples/firmware.c does. Before that a
-//! report with a bad zone is refused, and says what is bad.
+//! Mounts a volume, keeps two files busy at once, has an append fail halfway, recovers, and goes on, as examples/firmware.c does. Before that
+//! a report with a bad zone is refused, and says what is bad.
 //! The disk is played by this program. It prints each step, and ends with status 1 where a step answers otherwise than it should.
 
 use std::error::Error;
 
-use zonefs::{format, words, Command, FileId, Format, Reason, Refusal, Reply, Source, Volume, EMPTY_ROW};
+use zonefs::{format, words, Command, CommandKind, FileId, Format};
+use zonefs::{Reason, Refusal, Reply, Source, Volume, EMPTY_ROW};
 
 const BLOCK: u64 = 4096;
 const SECTOR: u64 = 512;
@@ -70,10 +71,15 @@ impl Disk {
         bytes
     }
 
-    /// Writes; gives the zone's record where not all of it landed.
-    fn write(&mut self, command: &Command) -> Result<(), [u8; words::ZONE_BYTES]> {
+    /// Does a command on a sequential zone; gives the zone's record where not all of it was done.
+    fn perform(&mut self, command: &Command) -> Result<(), [u8; words::ZONE_BYTES]> {
         let zone = command.address / SECTOR / ZONE_SECTORS;
         let pointer = &mut self.pointers[(zone - Disk::CONVENTIONAL) as usize];
+        if command.kind == CommandKind::Reset {
+            *pointer = zone * ZONE_SECTORS;
+            return Ok(());
+        }
+        assert_eq!(command.kind, CommandKind::Write, "this program asks for nothing else");
         assert_eq!(command.address, *pointer * SECTOR, "a sequential zone is written at its pointer");
         let failure = self.fails_after.take();
         *pointer += failure.map_or(command.length, |blocks| blocks * BLOCK) / SECTOR;
@@ -94,14 +100,33 @@ fn mount(disk: &Disk) -> Result<Mounted, Refusal> {
     Volume::mount(&source, [EMPTY_ROW; 4], [EMPTY_ROW; 4])
 }
 
-/// Appends as a driver does: asks, has the disk do the command, and says how that went. Gives the bytes appended.
-fn append(volume: &mut Mounted, disk: &mut Disk, file: FileId, length: u64) -> Result<u64, Refusal> {
-    let size = volume.show(file)?.size;
-    let Reply::Command(command) = volume.write(file, size, length)? else { return Ok(0) };
-    match disk.write(&command) {
-        Ok(()) => volume.complete(),
-        Err(record) => Err(volume.fail(&record, true)),
+/// The command that a call has led to. Here each call does.
+fn commanded(reply: Reply) -> Result<Command, String> {
+    match reply {
+        Reply::Command(command) => Ok(command),
+        Reply::Done(_) => Err("the disk should have something to do".to_string()),
     }
+}
+
+/// Has the disk do what the file has outstanding, and says how that went. Gives the bytes written.
+fn end(volume: &mut Mounted, disk: &mut Disk, file: FileId, command: &Command) -> Result<u64, Refusal> {
+    match disk.perform(command) {
+        Ok(()) => volume.complete(file),
+        Err(record) => Err(volume.fail(file, &record, true)),
+    }
+}
+
+/// Appends as a driver does that waits for the disk: asks, has the disk do the command, and says how that went.
+fn append(volume: &mut Mounted, disk: &mut Disk, file: FileId, length: u64) -> Result<u64, Refusal> {
+    let size = size_of(volume, file)?;
+    match volume.write(file, size, length)? {
+        Reply::Done(count) => Ok(count),
+        Reply::Command(command) => end(volume, disk, file, &command),
+    }
+}
+
+fn size_of(volume: &Mounted, file: FileId) -> Result<u64, Refusal> {
+    volume.show(file).map(|file| file.size)
 }
 
 /// Prints a step, and stops the program where its answer isn't the one expected.
@@ -116,37 +141,54 @@ fn step(what: &str, answer: Result<u64, Refusal>, expected: Result<u64, Refusal>
     Err(format!("{what}: expected {expected:?}"))
 }
 
-fn main() -> Result<(), Box<dyn Error>> {
-    // A pointer that lies before its zone: the refusal names the zone and the field.
-    let start = |zone: u64| zone * ZONE_SECTORS;
-    let astray = Disk { pointers: [start(3) - BLOCK / SECTOR, start(4)], fails_after: None };
+/// A pointer that lies before its zone: the refusal names the zone and the field.
+fn refused_mount() -> Result<(), String> {
+    let astray = Disk { pointers: [3 * ZONE_SECTORS - BLOCK / SECTOR, 4 * ZONE_SECTORS], fails_after: None };
     let bad_zone = Refusal::BadZone { zone: 3, reason: Reason::Pointer };
-    step("mount with a pointer astray", mount(&astray).map(|_| 0), Err(bad_zone))?;
+    step("mount with a pointer astray", mount(&astray).map(|_| 0), Err(bad_zone))
+}
+
+/// Each file may have a command outstanding: seq/1 is emptied while an append to seq/0 is under way, and is done first.
+fn two_files(volume: &mut Mounted, disk: &mut Disk, log: FileId, full: FileId) -> Result<(), Box<dyn Error>> {
+    let append = commanded(volume.write(log, 4096, 8192)?)?;
+    let reset = commanded(volume.truncate(full, 0)?)?;
+    let busy = volume.write(log, 4096, 4096).map(|_| 0);
+    step("append 4096 to seq/0, which is busy", busy, Err(Refusal::Busy))?;
+    step("reset seq/1", end(volume, disk, full, &reset), Ok(0))?;
+    step("size of seq/1", size_of(volume, full), Ok(0))?;
+    assert_eq!(volume.outstanding(log)?, Some(append), "what seq/0 has outstanding stays so");
+    step("append 8192 to seq/0", end(volume, disk, log, &append), Ok(8192))?;
+    step("size of seq/0", size_of(volume, log), Ok(12288))?;
+    Ok(())
+}
+
+/// Of two blocks only one lands: the size is what is on the disk, and the rest is appended there.
+fn recover(volume: &mut Mounted, disk: &mut Disk, log: FileId) -> Result<(), String> {
+    disk.fails_after = Some(1);
+    step("append 8192 to seq/0", append(volume, disk, log, 8192), Err(Refusal::Failed { size: 16384 }))?;
+    let misplaced = volume.write(log, 12288, 4096).map(|_| 0);
+    step("append 4096 where it had been", misplaced, Err(Refusal::Misplaced))?;
+    step("append 4096 to seq/0", append(volume, disk, log, 4096), Ok(4096))?;
+    step("size of seq/0", size_of(volume, log), Ok(20480))
+}
+
+fn main() -> Result<(), Box<dyn Error>> {
+    refused_mount()?;
 
     // seq/0 has one block, seq/1 is full.
-    let pointers = [start(3) + BLOCK / SECTOR, start(4) + CAPACITY_SECTORS];
+    let pointers = [3 * ZONE_SECTORS + BLOCK / SECTOR, 4 * ZONE_SECTORS + CAPACITY_SECTORS];
     let mut disk = Disk { pointers, fails_after: None };
     let mut volume = mount(&disk)?;
     let value = volume.value().ok_or("a mount gives a mount value")?;
     println!("mounted: {} cnv files, {} seq files", value.cnv_files, value.seq_files);
 
     // A full zone's file has its capacity.
-    let full = volume.find("seq/1")?;
-    step("size of seq/1", volume.show(full).map(|file| file.size), Ok(CAPACITY_SECTORS * SECTOR))?;
+    let (log, full) = (volume.find("seq/0")?, volume.find("seq/1")?);
+    step("size of seq/1", size_of(&volume, full), Ok(CAPACITY_SECTORS * SECTOR))?;
+    step("size of seq/0", size_of(&volume, log), Ok(4096))?;
 
-    let log = volume.find("seq/0")?;
-    let size = |volume: &Mounted| volume.show(log).map(|file| file.size);
-    step("size of seq/0", size(&volume), Ok(4096))?;
-    step("append 8192", append(&mut volume, &mut disk, log, 8192), Ok(8192))?;
-    step("size of seq/0", size(&volume), Ok(12288))?;
-
-    // Of the next two blocks only one lands: the size is what is on the disk, and the rest is appended there.
-    disk.fails_after = Some(1);
-    step("append 8192", append(&mut volume, &mut disk, log, 8192), Err(Refusal::Failed { size: 16384 }))?;
-    let misplaced = volume.write(log, 12288, 4096).map(|_| 0);
-    step("append 4096 where it had been", misplaced, Err(Refusal::Misplaced))?;
-    step("append 4096", append(&mut volume, &mut disk, log, 4096), Ok(4096))?;
-    step("size of seq/0", size(&volume), Ok(20480))?;
+    two_files(&mut volume, &mut disk, log, full)?;
+    recover(&mut volume, &mut disk, log)?;
     println!("recovered");
     Ok(())
 }

@@ -47,8 +47,12 @@
 //! let Reply::Command(command) = volume.write(log, size, 8192)? else { panic!("two blocks are to be written") };
 //! assert_eq!((command.address, command.length), (64 * 512, 8192));
 //!
+//! // Until it has ended, this file takes no other call. Other files do: each may have one command outstanding.
+//! assert_eq!(volume.flush(log), Err(Refusal::Busy));
+//! assert_eq!(volume.outstanding(log)?, Some(command));
+//!
 //! // The disk fails it halfway, and its record of the zone says that one block is there.
-//! assert_eq!(volume.fail(&record, false), Refusal::Failed { size: 4096 });
+//! assert_eq!(volume.fail(log, &record, false), Refusal::Failed { size: 4096 });
 //! assert_eq!(volume.show(FileId::seq(0))?.size, 4096);
 //! # Ok::<(), Refusal>(())
 //! ```

@@ -64,7 +64,7 @@ macro_rules! refusals {
 
 refusals! {
     1 NoFile, NO_FILE, "there is no such file or name";
-    2 Busy, BUSY, "a command is outstanding";
+    2 Busy, BUSY, "the file has a command outstanding";
     3 ReadOnly, READ_ONLY, "the mount is read-only";
     4 Denied, DENIED, "the file's access is too low, or it can't be truncated, or not to this size";
     5 BeyondCapacity, BEYOND_CAPACITY, "offset and length reach beyond the capacity";
@@ -73,7 +73,7 @@ refusals! {
         /// The file's size now, in bytes.
         size: u64 = word, ANSWER_NEW_SIZE;
     }, FAILED, "the disk failed the command, and the file has {size} bytes now";
-    8 NothingOutstanding, NOTHING_OUTSTANDING, "no command is outstanding";
+    8 NothingOutstanding, NOTHING_OUTSTANDING, "the file has nothing outstanding";
     9 BadRecord {
         /// What is bad of the record.
         reason: Reason = Reason::from_code, ANSWER_RECORD_REASON;

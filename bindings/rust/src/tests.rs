@@ -5,7 +5,7 @@ use std::collections::BTreeMap;
 use crate::words::{ANSWER_WORDS, CONSTANTS, FUNCTIONS, MOUNT_WORDS};
 use crate::{codes, reason, refusal};
 use crate::{format, super_fields, Format, Formatted, SuperFields};
-use crate::{FileId, FileKind, MountValue, Policy, Reason, Refusal};
+use crate::{Command, CommandKind, FileId, FileKind, MountValue, Policy, Reason, Refusal};
 
 /// The header without its comments.
 fn header() -> String {
@@ -142,7 +142,8 @@ fn refusals_are_errors_with_a_text() {
         Refusal::Failed { size: 8192 }.to_string(),
         "7: the disk failed the command, and the file has 8192 bytes now"
     );
-    assert_eq!(Refusal::Busy.to_string(), "2: a command is outstanding");
+    assert_eq!(Refusal::Busy.to_string(), "2: the file has a command outstanding");
+    assert_eq!(Refusal::NothingOutstanding.to_string(), "8: the file has nothing outstanding");
     assert_eq!(Refusal::LabelLength.to_string(), "34: the label is longer than 64 bytes");
 }
 
@@ -169,22 +170,37 @@ fn names_and_codes() {
     assert_eq!(Policy::from_code(Policy::Repair.code()), Some(Policy::Repair));
 }
 
-/// Words hold no mount value where one of them is out of its range, also one of a command that isn't outstanding.
+/// Words hold no mount value where one of them is out of its range.
 #[test]
 fn mount_values() {
-    let words =
-        [4096, 2, 3, 4, 5, 0o640, 3, 0x0706_0504_0302_0100, 0x0F0E_0D0C_0B0A_0908, 1, 0, 0, 0, 0, 0, 0];
+    let words = [4096, 2, 3, 4, 5, 0o640, 3, 0x0706_0504_0302_0100, 0x0F0E_0D0C_0B0A_0908, 1];
     let value = MountValue::from_words(&words).expect("a mount value");
     assert_eq!((value.cnv_files, value.seq_files, value.policy), (2, 3, Policy::Repair));
-    assert_eq!((value.read_only, value.outstanding), (true, None));
+    assert!(value.read_only);
     assert_eq!(value.uuid, [0, 1, 2, 3, 4, 5, 6, 7, 8, 9, 10, 11, 12, 13, 14, 15]);
-    let most = [u64::MAX, 1 << 32, 1 << 32, 1 << 32, 1 << 32, 1 << 32, 4, 0, 0, 2, 2, 2, 1 << 32, 5, 0, 0];
+    let most = [u64::MAX, 1 << 32, 1 << 32, 1 << 32, 1 << 32, 1 << 32, 4, 0, 0, 2];
     for at in (1..MOUNT_WORDS).filter(|&at| most[at] != 0) {
         let mut wrong = words;
         wrong[at] = most[at];
         assert_eq!(MountValue::from_words(&wrong), None, "word {at}");
         wrong[at] -= 1;
         assert!(MountValue::from_words(&wrong).is_some(), "word {at}");
+    }
+}
+
+/// Of a row that holds nothing the words after that don't count; one that holds no command is no idle one.
+#[test]
+fn rows_hold_a_command_or_nothing() {
+    let row = |held: u64| [64, 32768, 4096, 0, 2, held, 36864, 8192];
+    assert_eq!(Command::of_row(&row(0)), Ok(None));
+    let kinds =
+        [CommandKind::Read, CommandKind::Write, CommandKind::Reset, CommandKind::Finish, CommandKind::Flush];
+    for (held, kind) in (1..).zip(kinds) {
+        let command = Command { kind, address: 36864, length: 8192 };
+        assert_eq!(Command::of_row(&row(held)), Ok(Some(command)));
+    }
+    for held in [6, 7, 1 << 32, u64::MAX] {
+        assert_eq!(Command::of_row(&row(held)), Err(Refusal::Impossible));
     }
 }
 

@@ -3,7 +3,8 @@
 use core::fmt;
 
 use crate::codes::{Access, CommandKind, Condition, FileKind, Policy};
-use crate::words::{self, MOUNT_WORDS};
+use crate::refusal::Refusal;
+use crate::words::{self, MOUNT_WORDS, ROW_WORDS};
 
 /// What a mount reads.
 #[derive(Clone, Copy, Debug)]
@@ -88,6 +89,14 @@ impl Command {
     pub(crate) fn from_words(kind: u64, address: u64, length: u64) -> Option<Command> {
         Some(Command { kind: CommandKind::from_code(kind)?, address, length })
     }
+
+    /// The command that a row has outstanding, `None` where it has none. [`Refusal::Impossible`] where what it holds is no command: calls on the
+    /// file are then refused as [`Refusal::Busy`], and its completions as impossible.
+    pub fn of_row(row: &[u64; ROW_WORDS]) -> Result<Option<Command>, Refusal> {
+        let Some(code) = row[words::ROW_HELD].checked_sub(1) else { return Ok(None) };
+        let command = Command::from_words(code, row[words::ROW_HELD_ADDRESS], row[words::ROW_HELD_LENGTH]);
+        command.map(Some).ok_or(Refusal::Impossible)
+    }
 }
 
 /// What a call that isn't refused answers.
@@ -96,7 +105,8 @@ impl Command {
 pub enum Reply {
     /// The call is over, with a count of bytes, which is 0.
     Done(u64),
-    /// The disk has to do this, and then [`Volume::complete`](crate::Volume::complete) or [`Volume::fail`](crate::Volume::fail) has to be called.
+    /// The disk has to do this, and then [`Volume::complete`](crate::Volume::complete) or [`Volume::fail`](crate::Volume::fail) has to be called for
+    /// this file. Until then it takes no other call; other files do.
     Command(Command),
 }
 
@@ -121,27 +131,17 @@ pub struct MountValue {
     pub uuid: [u8; 16],
     /// Whether the whole mount is read-only.
     pub read_only: bool,
-    /// The outstanding command and the file that it is for.
-    pub outstanding: Option<(FileId, Command)>,
 }
 
 impl MountValue {
     /// Reads mount words; `None` where they hold no mount value.
     pub fn from_words(mount: &[u64; MOUNT_WORDS]) -> Option<MountValue> {
         let short = |at: usize| u32::try_from(mount[at]).ok();
-        let mark = |at: usize| match mount[at] {
-            0 => Some(false),
-            1 => Some(true),
-            _ => None,
+        let read_only = match mount[words::MOUNT_READ_ONLY] {
+            0 => false,
+            1 => true,
+            _ => return None,
         };
-        // The codes of the held command have to be codes also where nothing is outstanding.
-        let kind = FileKind::from_code(mount[words::MOUNT_HELD_KIND])?;
-        let file = FileId { kind, number: short(words::MOUNT_HELD_NUMBER)? };
-        let command = Command::from_words(
-            mount[words::MOUNT_HELD_COMMAND],
-            mount[words::MOUNT_HELD_ADDRESS],
-            mount[words::MOUNT_HELD_LENGTH],
-        )?;
         let halves = [mount[words::MOUNT_UUID_LOW], mount[words::MOUNT_UUID_HIGH]];
         let mut uuid = [0; 16];
         uuid[..8].copy_from_slice(&halves[0].to_le_bytes());
@@ -155,8 +155,7 @@ impl MountValue {
             mode: short(words::MOUNT_MODE)?,
             policy: Policy::from_code(mount[words::MOUNT_POLICY])?,
             uuid,
-            read_only: mark(words::MOUNT_READ_ONLY)?,
-            outstanding: mark(words::MOUNT_OUTSTANDING)?.then_some((file, command)),
+            read_only,
         })
     }
 }

@@ -17,6 +17,8 @@ pub const EMPTY_ROW: RowWords = [0; ROW_WORDS];
 /// `T` is a table, with a [`RowWords`] for each file of a kind: anything that lends them, such as `&mut [RowWords]`, an array or a
 /// `Vec<RowWords>`. So the caller says where the tables are and how long, and none of this needs a heap.
 /// [`MOST_FILES`](words::MOST_FILES) rows are always enough.
+///
+/// Each file may have one command outstanding, any number of files at once. Their commands end in any order: a completion names its file.
 #[derive(Clone, Debug, PartialEq, Eq)]
 pub struct Volume<T> {
     mount: [u64; MOUNT_WORDS],
@@ -88,6 +90,13 @@ impl<T: AsRef<[RowWords]> + AsMut<[RowWords]>> Volume<T> {
         })
     }
 
+    /// What a file has outstanding, as a call gave it; `None` where that is nothing. Refusals are 1 and 10, as of [`Volume::show`], and 10 where
+    /// what the file's row holds is no command, which only words from elsewhere can be.
+    pub fn outstanding(&self, file: FileId) -> Result<Option<Command>, Refusal> {
+        self.show(file)?;
+        Command::of_row(&self.table(file.kind)[file.number as usize])
+    }
+
     /// Asks to read. A read is cut at the file's size. Refusals are 1, 2, 4, 5 and 10.
     pub fn read(&mut self, file: FileId, offset: u64, length: u64) -> Result<Reply, Refusal> {
         self.call(|mount, cnv, seq, answer| {
@@ -116,24 +125,28 @@ impl<T: AsRef<[RowWords]> + AsMut<[RowWords]>> Volume<T> {
         })
     }
 
-    /// The disk did all of the outstanding command. Gives the bytes read or written, else 0. Refusals are 8 and 10.
-    pub fn complete(&mut self) -> Result<u64, Refusal> {
-        let answer = self.completion(words::complete)?;
+    /// The disk did all of the command that the file has outstanding. Gives the bytes read or written, else 0. Refusals are 1, 8 and 10.
+    pub fn complete(&mut self, file: FileId) -> Result<u64, Refusal> {
+        let answer = self.lend(|mount, cnv, seq, answer| {
+            words::complete(mount, cnv, seq, file.kind_code(), file.number, answer)
+        })?;
         Ok(answer[words::ANSWER_COUNT])
     }
 
-    /// The disk failed the outstanding command; a read or write that came out short counts as failed.
+    /// The disk failed the command that the file has outstanding; a read or write that came out short counts as failed.
     ///
     /// `record` is the 64 bytes of the zone at the command's address as it is after the failure, a `struct blk_zone` of Linux as it
     /// comes, a full zone's too; `capacity_given` is the flag of the report that it came with.
     ///
-    /// This is always a refusal: [`Refusal::Failed`] with the file's size now, and nothing is outstanding any more; or 8, 9 with what is
-    /// bad of the record, or 10, and nothing is changed. So a driver can answer for a whole command with
-    /// `if done { volume.complete() } else { Err(volume.fail(&record, true)) }`.
+    /// This is always a refusal: [`Refusal::Failed`] with the file's size now, and the file has nothing outstanding any more; or 1, 8, 9 with
+    /// what is bad of the record, or 10, and nothing is changed. What other files have outstanding stays so, also where the whole mount becomes
+    /// read-only. So a driver can answer for a whole command with
+    /// `if done { volume.complete(file) } else { Err(volume.fail(file, &record, true)) }`.
     #[must_use]
-    pub fn fail(&mut self, record: &[u8], capacity_given: bool) -> Refusal {
-        let failed = self.completion(|mount, cnv, seq, answer| {
-            words::fail(mount, cnv, seq, record, u32::from(capacity_given), answer)
+    pub fn fail(&mut self, file: FileId, record: &[u8], capacity_given: bool) -> Refusal {
+        let (kind, number, given) = (file.kind_code(), file.number, u32::from(capacity_given));
+        let failed = self.lend(|mount, cnv, seq, answer| {
+            words::fail(mount, cnv, seq, kind, number, record, given, answer)
         });
         promised(failed.err())
     }
@@ -141,10 +154,9 @@ impl<T: AsRef<[RowWords]> + AsMut<[RowWords]>> Volume<T> {
     /// Lends a call what it takes, and reads its answer.
     fn call(
         &mut self,
-        call: impl FnOnce(&mut [u64], &[u64], &[u64], &mut [u64]) -> u64,
+        call: impl FnOnce(&mut [u64], &mut [u64], &mut [u64], &mut [u64]) -> u64,
     ) -> Result<Reply, Refusal> {
-        let (cnv, seq) = (words_of(&self.cnv), words_of(&self.seq));
-        let answer = ask(|answer| call(&mut self.mount, cnv, seq, answer))?;
+        let answer = self.lend(call)?;
         Ok(match answer[words::ANSWER_VALUES] {
             words::AT_ONCE => Reply::Done(answer[words::ANSWER_COUNT]),
             _ => Reply::Command(promised(Command::from_words(
@@ -155,13 +167,13 @@ impl<T: AsRef<[RowWords]> + AsMut<[RowWords]>> Volume<T> {
         })
     }
 
-    /// Lends a completion what it takes, and gives the answer words.
-    fn completion(
+    /// Lends a call or a completion what it takes, and gives the answer words.
+    fn lend(
         &mut self,
-        complete: impl FnOnce(&mut [u64], &mut [u64], &mut [u64], &mut [u64]) -> u64,
+        function: impl FnOnce(&mut [u64], &mut [u64], &mut [u64], &mut [u64]) -> u64,
     ) -> Result<[u64; ANSWER_WORDS], Refusal> {
         let (cnv, seq) = (words_mut(&mut self.cnv), words_mut(&mut self.seq));
-        ask(|answer| complete(&mut self.mount, cnv, seq, answer))
+        ask(|answer| function(&mut self.mount, cnv, seq, answer))
     }
 }
 

@@ -92,7 +92,7 @@ functions! {
         [answer: &mut [u64]],
     ) -> u64;
 
-    /// Mounts: fills the front of both tables with a row for each file, and the mount words. Answers 0 with the numbers of
+    /// Mounts: fills the front of both tables with a row for each file, with nothing outstanding, and the mount words. Answers 0 with the numbers of
     /// cnv and of seq files; or 10, 20 to 30, 33; 29 with the lowest number of a bad zone and its reason. Refused by 20 to 30 or 33, the
     /// tables are as they were and the mount words are all 0.
     fn mount = zonefs_mount(
@@ -126,11 +126,12 @@ functions! {
     ) -> u64;
 
     /// Decides a read. Answers 0 with [`AT_ONCE`] value, the count, which is 0; or with [`COMMANDED`] values, the command
-    /// that the disk has to do, its byte address and its byte length; or 1, 2, 4, 5, 10.
+    /// that the disk has to do, its byte address and its byte length, which the file's row then holds as outstanding; or 1, 2, 4, 5, 10. But for
+    /// a command, mount words and tables are as they were. 2 is about this file alone, whatever others have outstanding.
     fn read = zonefs_read(
         [mount: &mut [u64]],
-        [cnv: &[u64]],
-        [seq: &[u64]],
+        [cnv: &mut [u64]],
+        [seq: &mut [u64]],
         kind: u32,
         number: u32,
         offset: u64,
@@ -141,8 +142,8 @@ functions! {
     /// Decides a write. Answers as [`read`] does, also 3 and 6.
     fn write = zonefs_write(
         [mount: &mut [u64]],
-        [cnv: &[u64]],
-        [seq: &[u64]],
+        [cnv: &mut [u64]],
+        [seq: &mut [u64]],
         kind: u32,
         number: u32,
         offset: u64,
@@ -153,8 +154,8 @@ functions! {
     /// Decides a truncation of a seq file, to the size 0 or to the capacity. Answers as [`read`] does, also 3, never 5.
     fn truncate = zonefs_truncate(
         [mount: &mut [u64]],
-        [cnv: &[u64]],
-        [seq: &[u64]],
+        [cnv: &mut [u64]],
+        [seq: &mut [u64]],
         kind: u32,
         number: u32,
         size: u64,
@@ -164,27 +165,33 @@ functions! {
     /// Decides a flush. Answers 0 with [`COMMANDED`] values; or 1 to 4, 10.
     fn flush = zonefs_flush(
         [mount: &mut [u64]],
-        [cnv: &[u64]],
-        [seq: &[u64]],
+        [cnv: &mut [u64]],
+        [seq: &mut [u64]],
         kind: u32,
         number: u32,
         [answer: &mut [u64]],
     ) -> u64;
 
-    /// The outstanding command was done. Answers 0 with the bytes read or written, else 0; or 8, 10.
+    /// The command that the file has outstanding was done. Answers 0 with the bytes read or written, else 0; or, in this order, 10 (the counts),
+    /// 1, 8, 10 (the row, or what it holds), and mount words and tables are as they were.
     fn complete = zonefs_complete(
         [mount: &mut [u64]],
         [cnv: &mut [u64]],
         [seq: &mut [u64]],
+        kind: u32,
+        number: u32,
         [answer: &mut [u64]],
     ) -> u64;
 
-    /// The outstanding command failed. `record` is that of the zone at the command's address as it is now, and
-    /// `capacity_given` is 0 where it states no capacity. Answers 7 with the file's size now; or 8, 9 with a reason, 10.
+    /// The command that the file has outstanding failed. `record` is that of the zone at the command's address as it is now, and
+    /// `capacity_given` is 0 where it states no capacity. Answers 7 with the file's size now; or what [`complete`] is refused by, in its order, and
+    /// then 9 with a reason. What other files have outstanding stays so.
     fn fail = zonefs_fail(
         [mount: &mut [u64]],
         [cnv: &mut [u64]],
         [seq: &mut [u64]],
+        kind: u32,
+        number: u32,
         [record: &[u8]],
         capacity_given: u32,
         [answer: &mut [u64]],
@@ -209,9 +216,9 @@ constants! {
     OK: u64 = 0;
 
     /// The words of a mount value.
-    MOUNT_WORDS: usize = 16;
+    MOUNT_WORDS: usize = 10;
     /// The words of a row.
-    ROW_WORDS: usize = 5;
+    ROW_WORDS: usize = 8;
     /// The words of an answer.
     ANSWER_WORDS: usize = 7;
 
@@ -324,6 +331,12 @@ constants! {
     ROW_CONDITION: usize = 3;
     /// A row: the access.
     ROW_ACCESS: usize = 4;
+    /// A row: 0 where nothing is outstanding, and then the two words after it are not looked at; else 1 + the command's code.
+    ROW_HELD: usize = 5;
+    /// A row: the outstanding command's byte address. A row is stored with 0 here where nothing is outstanding.
+    ROW_HELD_ADDRESS: usize = 6;
+    /// A row: the outstanding command's byte length. A row is stored with 0 here where nothing is outstanding.
+    ROW_HELD_LENGTH: usize = 7;
 
     /// A mount value: the block, 512 or 4096.
     MOUNT_BLOCK: usize = 0;
@@ -345,16 +358,4 @@ constants! {
     MOUNT_UUID_HIGH: usize = 8;
     /// A mount value: 1 where the mount is read-only.
     MOUNT_READ_ONLY: usize = 9;
-    /// A mount value: 1 where a command is outstanding.
-    MOUNT_OUTSTANDING: usize = 10;
-    /// A mount value: the kind of the outstanding command's file.
-    MOUNT_HELD_KIND: usize = 11;
-    /// A mount value: the number of the outstanding command's file, 32 bits.
-    MOUNT_HELD_NUMBER: usize = 12;
-    /// A mount value: which command is outstanding.
-    MOUNT_HELD_COMMAND: usize = 13;
-    /// A mount value: the outstanding command's byte address.
-    MOUNT_HELD_ADDRESS: usize = 14;
-    /// A mount value: the outstanding command's byte length.
-    MOUNT_HELD_LENGTH: usize = 15;
 }

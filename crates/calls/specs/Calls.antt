@@ -11,12 +11,13 @@ use Rattle.types.specs.declared.Verdict.the-variants.{Passed}
 use Rattle.types.specs.declared.Answer.{Answer}
 use Rattle.types.specs.declared.Answer.the-variants.{Refused, Done, Issue}
 use Rattle.types.specs.declared.Effect.{Effect}
+use Rattle.types.specs.declared.Store.the-variants as store
 use Rattle.types.specs.declared.Call.{Call}
 use Rattle.types.specs.Codes.{isKind, kindFrom}
 use Rattle.types.specs.Effects.{answering, refusing}
-use Rattle.types.specs.Mounts.{holding}
 use Rattle.types.specs.Predicates.{isBusy}
 use Rattle.types.specs.Verdicts.{refuse, answerAfter}
+use Rattle.table.specs.Rows.{holding}
 use Rattle.checks.specs.declared.Checked.{Checked}
 use Rattle.checks.specs.declared.Checked.the-variants as checked
 use Rattle.checks.specs.Checks.{noKind, fileOf}
@@ -24,31 +25,27 @@ use Rattle.decision.specs.Decision.{dispatched}
 
 -- ---- "Calls check in the order 10 (counts), 1, 10 (row), 2, then as below"
 
--- 2: "a command is outstanding"; then as the row and the read-only mark say
+-- 2: "a command is outstanding", and 02: "Number 2 is now about the named file"; then as the row and the read-only mark say
 abbrev pub onRow : Mount → FileKind → Row → Call → Answer
 onRow m k r x =
-    answerAfter (refuse (isBusy (m .outstanding)) refusal.Busy Passed) (dispatched (m .readonly) (m .volume .block) k r x)
-
--- past 10 (counts), 1, 10 (row)
-abbrev pub onFile : Mount → FileKind → Checked → Call → Answer
-onFile m k (checked.Good r) x = onRow m k r x
-onFile m k (checked.Refused y) x = Refused y
-
--- what a call on file i of a kind answers
-abbrev pub answered : Mount → List ℕ → List ℕ → FileKind → ℕ → Call → Answer
-answered m cnv seq k i x = onFile m k (fileOf (m .volume) cnv seq k i) x
+    answerAfter (refuse (isBusy (r .outstanding)) refusal.Busy Passed) (dispatched (m .readonly) (m .volume .block) k r x)
 
 -- ---- what it does
 
--- an issued command is outstanding, and nothing else changes: no call stores a row
-abbrev pub settled : Mount → FileKind → ℕ → Answer → Effect
-settled m k i (Issue c) = answering (Issue c) (holding m (record { kind = k; number = i; command = c }))
-settled m k i (Done count) = answering (Done count) m
-settled m k i (Refused x) = refusing m x
+-- an issued command is outstanding on its file, and nothing else changes; a call that is answered at once or refused changes nothing
+abbrev pub settled : Mount → FileKind → ℕ → Row → Answer → Effect
+settled m k i r (Issue c) = record { outcome = record { answer = Issue c; mount = m }; store = store.Put k i (holding r c) }
+settled m k i r (Done count) = answering (Done count) m
+settled m k i r (Refused x) = refusing m x
+
+-- past 10 (counts), 1, 10 (row)
+abbrev pub onFile : Mount → FileKind → ℕ → Checked → Call → Effect
+onFile m k i (checked.Good r) x = settled m k i r (onRow m k r x)
+onFile m k i (checked.Refused y) x = refusing m y
 
 -- THE CALLS: what a call on file i of a kind answers, the mount that it leaves, and what it stores
 abbrev pub effectOf : Mount → List ℕ → List ℕ → FileKind → ℕ → Call → Effect
-effectOf m cnv seq k i x = settled m k i (answered m cnv seq k i x)
+effectOf m cnv seq k i x = onFile m k i (fileOf (m .volume) cnv seq k i) x
 
 -- of a kind that is given as a number: "kind byte 0 cnv or 1 seq", "a kind above 1 answers 1"
 unfoldable pub effectBy : Mount → List ℕ → List ℕ → ℕ → ℕ → Call → Effect

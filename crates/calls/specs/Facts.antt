@@ -11,4 +11,4 @@ use Rattle.checks.specs.Facts.{Reached}
 -- 10 (counts), 1, 10 (row) and 2 are passed
 pub record Admitted (m : Mount) (cnv seq : List ℕ) (k : FileKind) (i : ℕ) (r : Row) : Type 0 where
   pub reached : Reached (m .volume) cnv seq k i r
-  pub idle : m .outstanding ≡ Idle
+  pub idle : r .outstanding ≡ Idle

@@ -1,4 +1,4 @@
-// The calls on a mounted volume: read, write, truncate and flush. None of them stores a row.
+// The calls on a mounted volume: read, write, truncate and flush. One that issues a command stores it in its file's row.
 ghost use mathlib.Core.Path.{_≡_};
 ghost use mathlib.Core.Bool.{true};
 ghost use Prim.Native.Nat.{_+_, _/_, _^_, _≤_};
@@ -13,18 +13,19 @@ use types::Answer;
 use types::Call;
 use types::Effect;
 use types::FileKind;
-use types::Held;
 use types::Mount;
+use types::Outcome;
 use types::Refusal;
 use types::Row;
+use types::Store;
 use types::Verdict;
 
-// Check 2, and then the call on its row.
+// Check 2, of the named file, and then the call on its row.
 fn on_row(m: Mount, kind: FileKind, row: Row, x: Call) -> Answer
     requires { ⌜ (goodBlock (m .volume .block) ≡ true) × (row .start + row .capacity / sectorBytes ≤ 2 ^ 40) ⌝ }
     ensures { λ r. ⌜ r ≡ onRow m kind row x ⌝ }
 {
-    let o = m.outstanding;
+    let o = row.outstanding;
     let v = m.volume;
     let busy = types::predicates::is_busy(o);
     let verdict = types::answers::refuse(busy, Refusal::Busy, Verdict::Passed);
@@ -34,45 +35,41 @@ fn on_row(m: Mount, kind: FileKind, row: Row, x: Call) -> Answer
     }
 }
 
-fn on_file(m: Mount, kind: FileKind, file: Checked, x: Call) -> Answer
-    requires { ⌜ (goodBlock (m .volume .block) ≡ true) × Ends file ⌝ }
-    ensures { λ r. ⌜ r ≡ onFile m kind file x ⌝ }
+// What an answer does: an issued command is stored in the file's row, and nothing is stored else.
+fn settle(m: Mount, kind: FileKind, number: u32, row: Row, answer: Answer) -> Effect
+    ensures { λ r. ⌜ r ≡ settled m kind number row answer ⌝ }
 {
-    match file {
-        Checked::Good(row) => on_row(m, kind, row, x),
-        Checked::Refused(y) => Answer::Refused(y),
+    match answer {
+        Answer::Issue(command) => {
+            let after = table::holding(row, command);
+            Effect {
+                outcome: Outcome { answer, mount: m },
+                store: Store::Put(kind, number, after),
+            }
+        }
+        Answer::Done(_) => types::effects::answering(answer, m),
+        Answer::Refused(_) => types::effects::answering(answer, m),
     }
 }
 
-// What an answer does: an issued command is outstanding. Nothing is stored.
-fn settle(m: Mount, kind: FileKind, number: u32, answer: Answer) -> Effect
-    ensures { λ r. ⌜ r ≡ settled m kind number answer ⌝ }
+fn on_file(m: Mount, kind: FileKind, number: u32, file: Checked, x: Call) -> Effect
+    requires { ⌜ (goodBlock (m .volume .block) ≡ true) × Ends file ⌝ }
+    ensures { λ r. ⌜ r ≡ onFile m kind number file x ⌝ }
 {
-    match answer {
-        Answer::Issue(command) => types::effects::answering(
-            answer,
-            types::mounts::with_held(
-                m,
-                Held {
-                    kind,
-                    number,
-                    command,
-                },
-            ),
-        ),
-        Answer::Done(_) => types::effects::answering(answer, m),
-        Answer::Refused(_) => types::effects::answering(answer, m),
+    match file {
+        Checked::Good(row) => settle(m, kind, number, row, on_row(m, kind, row, x)),
+        Checked::Refused(y) => types::effects::refusing(m, y),
     }
 }
 
 // A call on a file that was found: checks 10 (row) and 2, and then as its row says.
 fn call_on(m: Mount, kind: FileKind, number: u32, slot: Slot, x: Call) -> Effect
     requires { ⌜ goodBlock (m .volume .block) ≡ true ⌝ }
-    ensures { λ r. ⌜ r ≡ settled m kind number (onFile m kind (soundSlot (m .volume .block) kind slot) x) ⌝ }
+    ensures { λ r. ⌜ r ≡ onFile m kind number (soundSlot (m .volume .block) kind slot) x ⌝ }
 {
     let v = m.volume;
     let file = checks::sound_slot(v.block, kind, slot);
-    settle(m, kind, number, on_file(m, kind, file, x))
+    on_file(m, kind, number, file, x)
 }
 
 // A call on a file: 10 (counts), 1, and then as of the file. One row is read, however many there are.

@@ -1,6 +1,6 @@
 -- The words of a caller in C hold the engine's mount value, from a mount on.
 -- Assumes nothing.
-use Prim.Native.Nat.{ℕ, _^_, _≤_, _<_}
+use Prim.Native.Nat.{ℕ, _≤_, _<_}
 use native.Mathlib.Omega.{arith}
 use mathlib.Core.Bool.{Bool, true, false, cond}
 use mathlib.Core.List.{List, [], _∷_, map}
@@ -8,34 +8,20 @@ use mathlib.Core.Logic.{_≢_}
 use mathlib.Core.Path.{_≡_, refl, ap, _∙_, subst}
 use lib.ListN.{length, getD, drop, length-append}
 use borrow.Author.Tests.{le-leb}
-use Rattle.types.specs.declared.FileKind.{FileKind}
-use Rattle.types.specs.declared.FileKind.the-variants.{Conventional, Sequential}
-use Rattle.types.specs.declared.Volume.{Volume}
-use Rattle.types.specs.declared.Outstanding.{Outstanding}
-use Rattle.types.specs.Kinds.{filesOf}
 use Rattle.types.specs.Numbers.{answerNumber}
 use Rattle.types.proofs.Tests.{both, and-left}
-use Rattle.types.proofs.Volumes.{BoundedVolume}
 use Rattle.mount.specs.Mount.{mountOutcome}
-use Rattle.mount.proofs.Bounds.{mount-bounded, mount-idle}
-use Rattle.engine.specs.Engine.{State, mounted, Input, call, completion, step, run}
-use Rattle.engine.proofs.Laws.{step-fixes, step-holds}
+use Rattle.mount.proofs.Bounds.{mount-bounded}
+use Rattle.engine.specs.Engine.{State, mounted, Input, step, run}
+use Rattle.engine.specs.Frame.{Frame}
+use Rattle.engine.proofs.Laws.{step-fixes}
 use Rattle.engine.proofs.Frame.{frame}
 use Rattle.answer_words.specs.Answers.{answerLength, answerWords, written}
-use Rattle.mount_words.specs.Words.{heldIn, possible, withState, Holds}
-use Rattle.mount_words.proofs.Laws.{Valued, valued-from, written-back, state-back, state-stays}
-use Rattle.capi.specs.Interface.{Changed, told, unwritten, usable, stepWords, toldMounted, roomy, mountGiven}
+use Rattle.mount_words.specs.Words.{possible, withState, Holds}
+use Rattle.mount_words.proofs.Laws.{written-back, state-back, state-stays}
+use Rattle.step_words.specs.Words.{Changed, told, unwritten, usable, stepWords}
+use Rattle.capi.specs.Interface.{toldMounted, roomy, mountGiven}
 use Rattle.capi.specs.Chain.{stateIn, Keeps, Unchanged, runWords, StepKept, RefusedKept, MountKept, ChainKept}
-
--- THE NUMBER OF A HELD COMMAND'S FILE fits its word: there is such a file, and their count does
-files-small : (k : FileKind) {v : Volume} → BoundedVolume v → filesOf k v < 2 ^ 32
-files-small Conventional b = b .conventional
-files-small Sequential b = b .sequential
-
-held-small : (w cnv seq : List ℕ) (x : Input) → heldIn (step (stateIn w cnv seq) x .state .mount .outstanding) .number < 2 ^ 32
-held-small w cnv seq x =
-    let v = valued-from w in
-    step-holds (λ (o : Outstanding). heldIn o .number < 2 ^ 32) (stateIn w cnv seq) x (v .number) (omega arith) (λ k n c l. omega (arith, files-small k (v .volume), l))
 
 -- A STEP of usable words
 usable-possible : (w : List ℕ) (room : ℕ) → usable w room ≡ true → possible w ≡ true
@@ -43,7 +29,7 @@ unfolding usable
 usable-possible w room h = and-left _ _ h
 
 words-step : (w cnv seq : List ℕ) (x : Input) → possible w ≡ true → let m = step (stateIn w cnv seq) x .state .mount in Holds (withState w m) m
-words-step w cnv seq x h = state-back w (step (stateIn w cnv seq) x .state .mount) h (step-fixes (stateIn w cnv seq) x) (held-small w cnv seq x)
+words-step w cnv seq x h = state-back w (step (stateIn w cnv seq) x .state .mount) h (step-fixes (stateIn w cnv seq) x)
 
 step-told : (w cnv seq : List ℕ) (x : Input) (a : List ℕ) → usable w (length a) ≡ true → stepWords w cnv seq x a ≡ told w a (step (stateIn w cnv seq) x)
 unfolding stepWords
@@ -64,15 +50,12 @@ unfolding StepKept
 step-kept = step-of
 
 -- A REFUSAL leaves the state, and so every word
-state-kept : (s : State) (x : Input) → answerNumber (step s x .reply) ≢ 0 → answerNumber (step s x .reply) ≢ 7 → step s x .state ≡ s
-state-kept s (call kind n x) e f = frame .calls s kind n x .refused e
-state-kept s (completion x) e f = frame .completions s x .refused e f
-
 refused-by : (w cnv seq : List ℕ) (x : Input) (a : List ℕ) (t : Bool) → usable w (length a) ≡ t
     → let g = cond t (told w a (step (stateIn w cnv seq) x)) (unwritten w cnv seq a) in g .number ≢ 0 → g .number ≢ 7 → Unchanged g w cnv seq
+unfolding Frame
 refused-by w cnv seq x a false h e f = record { words = refl; cnv = refl; seq = refl }
 refused-by w cnv seq x a true h e f =
-    let same = state-kept (stateIn w cnv seq) x e f in
+    let same = frame (stateIn w cnv seq) x .refused e f in
     record {
       words = ap (λ (s : State). withState w (s .mount)) same ∙ state-stays w (usable-possible w (length a) h);
       cnv = ap (λ (s : State). s .cnv) same;
@@ -84,20 +67,15 @@ unfolding RefusedKept stepWords
 refused-kept w cnv seq x a = refused-by w cnv seq x a (usable w (length a)) refl
 
 -- A MOUNT
-module _ (block : ℕ) (superblock options report cnv seq : List ℕ) (bytes : (k : ℕ) → getD superblock k 0 < 256) where
-  mount-valued : Valued (mountOutcome block superblock options report cnv seq .mount)
-  mount-valued = record {
-    volume = mount-bounded block superblock options report cnv seq bytes;
-    number = rw (mount-idle block superblock options report cnv seq) (omega arith);
-  }
+module _ (block : ℕ) (superblock options report cnv seq : List ℕ) (bytes : (k : ℕ) → getD superblock k 0 < 256) (w a : List ℕ) (h : roomy (length w) (length a) ≡ true) where
+  mount-told : mountGiven block superblock options report cnv seq w a ≡ toldMounted w a (mountOutcome block superblock options report cnv seq)
+  unfolding mountGiven
+  mount-told = rw h
 
-  module _ (w a : List ℕ) (h : roomy (length w) (length a) ≡ true) where
-    mount-told : mountGiven block superblock options report cnv seq w a ≡ toldMounted w a (mountOutcome block superblock options report cnv seq)
-    unfolding mountGiven
-    mount-told = rw h
-
-    mount-keeps : Keeps (mountGiven block superblock options report cnv seq w a) (mounted (mountOutcome block superblock options report cnv seq))
-    mount-keeps = rw mount-told (record { words = written-back w (mountOutcome block superblock options report cnv seq .mount) mount-valued; cnv = refl; seq = refl })
+  mount-keeps : Keeps (mountGiven block superblock options report cnv seq w a) (mounted (mountOutcome block superblock options report cnv seq))
+  mount-keeps =
+      let bounded = mount-bounded block superblock options report cnv seq bytes in
+      rw mount-told (record { words = written-back w (mountOutcome block superblock options report cnv seq .mount) bounded; cnv = refl; seq = refl })
 
 pub mount-kept : MountKept
 unfolding MountKept

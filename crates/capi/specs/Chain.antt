@@ -10,7 +10,8 @@ use Rattle.types.specs.Numbers.{answerNumber}
 use Rattle.mount.specs.Mount.{mountOutcome}
 use Rattle.engine.specs.Engine.{State, mounted, Input, step, run}
 use Rattle.mount_words.specs.Words.{mountFrom, Holds}
-use Rattle.capi.specs.Interface.{Changed, usable, stepWords, roomy, mountGiven}
+use Rattle.step_words.specs.Words.{Changed, usable, stepWords}
+use Rattle.capi.specs.Interface.{roomy, mountGiven}
 
 -- ---- one call or completion
 

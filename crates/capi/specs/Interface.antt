@@ -1,4 +1,5 @@
--- What each function of the C interface returns, and leaves in the words that it was lent; those of the formatter are in `format_words`.
+-- What each function of the C interface returns, and leaves in the words that it was lent; calls and completions are in `step_words`, and
+-- the formatter in `format_words`.
 use Prim.Native.Nat.{ℕ}
 use mathlib.Core.List.{List}
 use mathlib.Core.Bool.{Bool, cond, _&&_}
@@ -7,48 +8,13 @@ use lib.Dec.{leb}
 use Rattle.types.specs.declared.Refusal.the-variants.{Impossible}
 use Rattle.types.specs.declared.FindAnswer.{FindAnswer}
 use Rattle.types.specs.declared.ShowAnswer.{ShowAnswer}
-use Rattle.types.specs.Numbers.{refusalNumber, answerNumber, answerValues, mountNumber, mountValues, findNumber, findValues, showNumber, showValues}
+use Rattle.types.specs.Numbers.{refusalNumber, mountNumber, mountValues, findNumber, findValues, showNumber, showValues}
 use Rattle.mount.specs.Mount.{Mounting, mountOutcome}
 use Rattle.inspect.specs.Find.{findOf}
 use Rattle.inspect.specs.Show.{showBy}
-use Rattle.engine.specs.Engine.{Input, Step, step}
 use Rattle.answer_words.specs.Answers.{answerLength, answerWords, written}
-use Rattle.mount_words.specs.Words.{mountLength, mountWords, withState, possible, mountFrom}
-
--- ---- what a function that is lent a mount's words, both tables and an answer's words gives: the number that it returns, and these after it
-
-pub record Changed : Type 0 where
-  pub number : ℕ
-  pub mount : List ℕ
-  pub cnv : List ℕ
-  pub seq : List ℕ
-  pub answer : List ℕ
-
--- 10 "mount value .. impossible", with nothing written
-abbrev pub unwritten : List ℕ → List ℕ → List ℕ → List ℕ → Changed
-unwritten w cnv seq a = record { number = refusalNumber Impossible; mount = w; cnv = cnv; seq = seq; answer = a }
-
--- ---- calls and completions
-
--- the words hold a mount value, and the answer has room
-unfoldable pub usable : List ℕ → ℕ → Bool
-usable w room = possible w && leb answerLength room
-
--- a step of the engine, told in words
-abbrev pub told : List ℕ → List ℕ → Step → Changed
-told w a t =
-    record {
-      number = answerNumber (t .reply);
-      mount = withState w (t .state .mount);
-      cnv = t .state .cnv;
-      seq = t .state .seq;
-      answer = written a (answerWords (answerValues (t .reply)));
-    }
-
--- a call or a completion, with the mount's words, both tables and the answer's words
-unfoldable pub stepWords : List ℕ → List ℕ → List ℕ → Input → List ℕ → Changed
-stepWords w cnv seq x a =
-    cond (usable w (length a)) (told w a (step (record { mount = mountFrom w; cnv = cnv; seq = seq }) x)) (unwritten w cnv seq a)
+use Rattle.mount_words.specs.Words.{mountLength, mountWords, mountFrom}
+use Rattle.step_words.specs.Words.{Changed, unwritten, usable}
 
 -- ---- finding and showing: the mount's words are only read
 

@@ -7,174 +7,110 @@ ghost use Prim.Native.Nat.{ℕ, _≤_};
 ghost use lib.Dec.{eqb};
 ghost use lib.ListN.{length};
 ghost use Rattle.types.specs.declared.Call.{Call};
-ghost use Rattle.types.specs.Numbers.{answerNumber, answerValues};
-ghost use Rattle.completion.specs.Completions.{Completion, completionOf, completionBy};
 ghost use Rattle.mount_words.specs.Words.{mountLength};
-ghost use Rattle.answer_words.specs.Answers.{answerLength, answerWords, written};
+ghost use Rattle.answer_words.specs.Answers.{answerLength};
 ghost use Rattle.engine.specs.Engine.{Input};
-ghost use Rattle.capi.specs.Interface.{usable, stepWords, toldFound, findWords, toldShown, showWords, roomy, toldMounted, mountGiven};
+ghost use Rattle.step_words.specs.Words.{Completion, completionOf, stepWords};
+ghost use Rattle.capi.specs.Interface.{toldFound, findWords, toldShown, showWords, roomy, toldMounted, mountGiven};
 ghost use Rattle.crc32.specs.Crc.{crc32};
 ghost use Rattle.format_words.specs.Words.{formatWords, fieldsWords};
-use types::Answer;
 use types::Call;
 use types::FindAnswer;
 use types::MountOutcome;
 use types::ShowAnswer;
 
-// "mount value or tables impossible"
-const IMPOSSIBLE: u64 = 10;
-
-// The words hold a mount value, and the answer has room.
-fn is_usable(w: &[u64], room: usize) -> bool
-    ensures { λ r. ⌜ r ≡ usable (now (w .entry)) room ⌝ }
-    ensures { λ r. ⌜ (r ≡ true → (mountLength ≤ length (now (w .entry))) × (answerLength ≤ room)) ⌝ }
-{
-    mount_words::is_possible(w) & (answer_words::ANSWER_WORDS <= room)
-}
-
-// Puts an answer into its words, and gives its number. The mount's words are put by the callers: with both in one function the whole outcome
-// would be handed over in memory.
-fn tell(a: &mut [u64], x: Answer) -> u64
-    requires { ⌜ answerLength ≤ length (now a) ⌝ }
-    ensures { λ r. ⌜ (answerNumber x ≡ r) × (written (now (a .entry)) (answerWords (answerValues x)) ≡ now (a .exit)) ⌝ }
-{
-    answer_words::put_values(a, answer_words::answer_values(x));
-    types::answers::answer_number(x)
-}
-
-// A call, with the mount's words and the answer's.
-fn call(
-    w: &mut [u64],
-    cnv: &[u64],
-    seq: &[u64],
-    kind: u32,
-    number: u32,
-    x: Call,
-    a: &mut [u64],
-) -> u64
-    ensures { λ r. ⌜ stepWords (now (w .entry)) (now (cnv .entry)) (now (seq .entry)) (Input.call kind number x) (now (a .entry)) ≡ record { number = r; mount = now (w .exit); cnv = now (cnv .entry); seq = now (seq .entry); answer = now (a .exit) } ⌝ }
-{
-    if !is_usable(&w[..], a.len()) {
-        return IMPOSSIBLE;
-    }
-    let m = mount_words::mount_from(&w[..]);
-    let o = engine::call(m, cnv, seq, kind as u64, number, x);
-    let after = o.mount;
-    let reply = o.answer;
-    mount_words::put_state(w, after);
-    tell(a, reply)
-}
-
 #[no_mangle]
 pub extern "C" fn zonefs_read(
     w: &mut [u64],
-    cnv: &[u64],
-    seq: &[u64],
+    cnv: &mut [u64],
+    seq: &mut [u64],
     kind: u32,
     number: u32,
     offset: u64,
     length: u64,
     a: &mut [u64],
 ) -> u64
-    ensures { λ r. ⌜ stepWords (now (w .entry)) (now (cnv .entry)) (now (seq .entry)) (Input.call kind number (Call.Read offset length)) (now (a .entry)) ≡ record { number = r; mount = now (w .exit); cnv = now (cnv .entry); seq = now (seq .entry); answer = now (a .exit) } ⌝ }
+    ensures { λ r. ⌜ stepWords (now (w .entry)) (now (cnv .entry)) (now (seq .entry)) (Input.call kind number (Call.Read offset length)) (now (a .entry)) ≡ record { number = r; mount = now (w .exit); cnv = now (cnv .exit); seq = now (seq .exit); answer = now (a .exit) } ⌝ }
 {
-    call(w, cnv, seq, kind, number, Call::Read(offset, length), a)
+    step_words::call(w, cnv, seq, kind, number, Call::Read(offset, length), a)
 }
 
 #[no_mangle]
 pub extern "C" fn zonefs_write(
     w: &mut [u64],
-    cnv: &[u64],
-    seq: &[u64],
+    cnv: &mut [u64],
+    seq: &mut [u64],
     kind: u32,
     number: u32,
     offset: u64,
     length: u64,
     a: &mut [u64],
 ) -> u64
-    ensures { λ r. ⌜ stepWords (now (w .entry)) (now (cnv .entry)) (now (seq .entry)) (Input.call kind number (Call.Write offset length)) (now (a .entry)) ≡ record { number = r; mount = now (w .exit); cnv = now (cnv .entry); seq = now (seq .entry); answer = now (a .exit) } ⌝ }
+    ensures { λ r. ⌜ stepWords (now (w .entry)) (now (cnv .entry)) (now (seq .entry)) (Input.call kind number (Call.Write offset length)) (now (a .entry)) ≡ record { number = r; mount = now (w .exit); cnv = now (cnv .exit); seq = now (seq .exit); answer = now (a .exit) } ⌝ }
 {
-    call(w, cnv, seq, kind, number, Call::Write(offset, length), a)
+    step_words::call(w, cnv, seq, kind, number, Call::Write(offset, length), a)
 }
 
 #[no_mangle]
 pub extern "C" fn zonefs_truncate(
     w: &mut [u64],
-    cnv: &[u64],
-    seq: &[u64],
+    cnv: &mut [u64],
+    seq: &mut [u64],
     kind: u32,
     number: u32,
     target: u64,
     a: &mut [u64],
 ) -> u64
-    ensures { λ r. ⌜ stepWords (now (w .entry)) (now (cnv .entry)) (now (seq .entry)) (Input.call kind number (Call.Truncate target)) (now (a .entry)) ≡ record { number = r; mount = now (w .exit); cnv = now (cnv .entry); seq = now (seq .entry); answer = now (a .exit) } ⌝ }
+    ensures { λ r. ⌜ stepWords (now (w .entry)) (now (cnv .entry)) (now (seq .entry)) (Input.call kind number (Call.Truncate target)) (now (a .entry)) ≡ record { number = r; mount = now (w .exit); cnv = now (cnv .exit); seq = now (seq .exit); answer = now (a .exit) } ⌝ }
 {
-    call(w, cnv, seq, kind, number, Call::Truncate(target), a)
+    step_words::call(w, cnv, seq, kind, number, Call::Truncate(target), a)
 }
 
 #[no_mangle]
 pub extern "C" fn zonefs_flush(
     w: &mut [u64],
-    cnv: &[u64],
-    seq: &[u64],
+    cnv: &mut [u64],
+    seq: &mut [u64],
     kind: u32,
     number: u32,
     a: &mut [u64],
 ) -> u64
-    ensures { λ r. ⌜ stepWords (now (w .entry)) (now (cnv .entry)) (now (seq .entry)) (Input.call kind number Call.Flush) (now (a .entry)) ≡ record { number = r; mount = now (w .exit); cnv = now (cnv .entry); seq = now (seq .entry); answer = now (a .exit) } ⌝ }
+    ensures { λ r. ⌜ stepWords (now (w .entry)) (now (cnv .entry)) (now (seq .entry)) (Input.call kind number Call.Flush) (now (a .entry)) ≡ record { number = r; mount = now (w .exit); cnv = now (cnv .exit); seq = now (seq .exit); answer = now (a .exit) } ⌝ }
 {
-    call(w, cnv, seq, kind, number, Call::Flush, a)
+    step_words::call(w, cnv, seq, kind, number, Call::Flush, a)
 }
 
-// The end of the outstanding command, with the mount's words and the answer's.
-fn end_command(
-    w: &mut [u64],
-    cnv: &mut [u64],
-    seq: &mut [u64],
-    done: bool,
-    bytes: &[u8],
-    given: bool,
-    a: &mut [u64],
-) -> u64
-    ensures { λ r. ⌜ stepWords (now (w .entry)) (now (cnv .entry)) (now (seq .entry)) (Input.completion (completionBy done given (now (bytes .entry)))) (now (a .entry)) ≡ record { number = r; mount = now (w .exit); cnv = now (cnv .exit); seq = now (seq .exit); answer = now (a .exit) } ⌝ }
-{
-    if !is_usable(&w[..], a.len()) {
-        return IMPOSSIBLE;
-    }
-    let m = mount_words::mount_from(&w[..]);
-    let o = engine::end_command(m, cnv, seq, done, bytes, given);
-    let after = o.mount;
-    let reply = o.answer;
-    mount_words::put_state(w, after);
-    tell(a, reply)
-}
-
-// The outstanding command was done well.
+// The command that a file has outstanding was done well.
 #[no_mangle]
 pub extern "C" fn zonefs_complete(
     w: &mut [u64],
     cnv: &mut [u64],
     seq: &mut [u64],
+    kind: u32,
+    number: u32,
     a: &mut [u64],
 ) -> u64
-    ensures { λ r. ⌜ stepWords (now (w .entry)) (now (cnv .entry)) (now (seq .entry)) (Input.completion Completion.good) (now (a .entry)) ≡ record { number = r; mount = now (w .exit); cnv = now (cnv .exit); seq = now (seq .exit); answer = now (a .exit) } ⌝ }
+    ensures { λ r. ⌜ stepWords (now (w .entry)) (now (cnv .entry)) (now (seq .entry)) (Input.completion kind number Completion.good) (now (a .entry)) ≡ record { number = r; mount = now (w .exit); cnv = now (cnv .exit); seq = now (seq .exit); answer = now (a .exit) } ⌝ }
 {
-    end_command(w, cnv, seq, true, b"", false, a)
+    step_words::end_command(w, cnv, seq, kind, number, true, b"", false, a)
 }
 
-// The outstanding command failed. The bytes are its zone's record, and `given` (any number but 0) says that the record states a capacity.
+// The command that a file has outstanding failed. The bytes are its zone's record, and `given` (any number but 0) says that the record states
+// a capacity.
 #[no_mangle]
 pub extern "C" fn zonefs_fail(
     w: &mut [u64],
     cnv: &mut [u64],
     seq: &mut [u64],
+    kind: u32,
+    number: u32,
     bytes: &[u8],
     given: u32,
     a: &mut [u64],
 ) -> u64
-    ensures { λ r. ⌜ stepWords (now (w .entry)) (now (cnv .entry)) (now (seq .entry)) (Input.completion (completionOf (not (eqb given 0)) (now (bytes .entry)))) (now (a .entry)) ≡ record { number = r; mount = now (w .exit); cnv = now (cnv .exit); seq = now (seq .exit); answer = now (a .exit) } ⌝ }
+    ensures { λ r. ⌜ stepWords (now (w .entry)) (now (cnv .entry)) (now (seq .entry)) (Input.completion kind number (completionOf (not (eqb given 0)) (now (bytes .entry)))) (now (a .entry)) ≡ record { number = r; mount = now (w .exit); cnv = now (cnv .exit); seq = now (seq .exit); answer = now (a .exit) } ⌝ }
 {
-    end_command(w, cnv, seq, false, bytes, given != 0, a)
+    step_words::end_command(w, cnv, seq, kind, number, false, bytes, given != 0, a)
 }
 
 // The words of a mount value and those of an answer are long enough.
@@ -211,7 +147,7 @@ pub extern "C" fn zonefs_mount(
     ensures { λ r. ⌜ mountGiven block (now (superblock .entry)) (now (options .entry)) (now (report .entry)) (now (cnv .entry)) (now (seq .entry)) (now (w .entry)) (now (a .entry)) ≡ record { number = r; mount = now (w .exit); cnv = now (cnv .exit); seq = now (seq .exit); answer = now (a .exit) } ⌝ }
 {
     if !is_roomy(w.len(), a.len()) {
-        return IMPOSSIBLE;
+        return step_words::IMPOSSIBLE;
     }
     tell_mounted(
         w,
@@ -239,8 +175,8 @@ pub extern "C" fn zonefs_find(
 ) -> u64
     ensures { λ r. ⌜ findWords (now (w .entry)) (now (cnv .entry)) (now (seq .entry)) (now (name .entry)) (now (a .entry)) ≡ record { number = r; answer = now (a .exit) } ⌝ }
 {
-    if !is_usable(w, a.len()) {
-        return IMPOSSIBLE;
+    if !step_words::is_usable(w, a.len()) {
+        return step_words::IMPOSSIBLE;
     }
     let m = mount_words::mount_from(w);
     tell_found(a, inspect::find(m, cnv, seq, name))
@@ -266,8 +202,8 @@ pub extern "C" fn zonefs_show(
 ) -> u64
     ensures { λ r. ⌜ showWords (now (w .entry)) (now (cnv .entry)) (now (seq .entry)) kind number (now (a .entry)) ≡ record { number = r; answer = now (a .exit) } ⌝ }
 {
-    if !is_usable(w, a.len()) {
-        return IMPOSSIBLE;
+    if !step_words::is_usable(w, a.len()) {
+        return step_words::IMPOSSIBLE;
     }
     let m = mount_words::mount_from(w);
     tell_shown(a, inspect::show_by(m, cnv, seq, kind as u64, number))

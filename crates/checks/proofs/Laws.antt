@@ -193,7 +193,7 @@ module _ (v : Volume) (cnv seq : List ℕ) (k : FileKind) (i : ℕ) (r : Row) wh
 
       looked : (x : Lookup) → countsFit v (length cnv) (length seq) ≡ true → lookupOf v cnv seq k i ≡ x → foundRow (v .block) k x ≡ checked.Good r → Reached v cnv seq k i r
       looked (lookup.Found (slot.Good y)) h f e = sounded y (soundRow (v .block) k y) refl h f e
-      looked (lookup.Found slot.Impossible) h f e = let z : _≡_ {A = ℕ} 0 1 = cc in absurd (omega arith)
+      looked (lookup.Found (slot.Impossible o)) h f e = let z : _≡_ {A = ℕ} 0 1 = cc in absurd (omega arith)
       looked lookup.Nothing h f e = let z : _≡_ {A = ℕ} 0 1 = cc in absurd (omega arith)
 
       counted : (t : Bool) → countsFit v (length cnv) (length seq) ≡ t

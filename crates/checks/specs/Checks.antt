@@ -1,4 +1,4 @@
--- The checks that all calls share: "Calls check in the order 10 (counts), 1, 10 (row), 2, then as below; finding a name or showing a row
+-- The checks that calls and completions share: "Calls check in the order 10 (counts), 1, 10 (row), 2, then as below; finding a name or showing a row
 -- stops before 2."
 use Prim.Native.Nat.{ℕ, _/_}
 use mathlib.Core.List.{List}
@@ -71,7 +71,7 @@ soundRow block k r =
 
 abbrev pub soundSlot : ℕ → FileKind → Slot → Checked
 soundSlot block k (slot.Good r) = cond (soundRow block k r) (Good r) (Refused refusal.Impossible)
-soundSlot block k slot.Impossible = Refused refusal.Impossible
+soundSlot block k (slot.Impossible o) = Refused refusal.Impossible
 
 -- ---- in order
 

@@ -13,12 +13,12 @@ use Rattle.checks.specs.declared.Checked.the-variants.{Good, Refused}
 -- "no such file", "tables impossible"
 abbrev pub lookupNumber : Lookup → ℕ
 lookupNumber (Found (slot.Good r)) = 0
-lookupNumber (Found slot.Impossible) = refusalNumber refusal.Impossible
+lookupNumber (Found (slot.Impossible o)) = refusalNumber refusal.Impossible
 lookupNumber Nothing = refusalNumber refusal.NoFile
 
 abbrev pub lookupValues : Lookup → List ℕ
 lookupValues (Found (slot.Good r)) = rowWords r
-lookupValues (Found slot.Impossible) = refusalValues refusal.Impossible
+lookupValues (Found (slot.Impossible o)) = refusalValues refusal.Impossible
 lookupValues Nothing = refusalValues refusal.NoFile
 
 abbrev pub checkedNumber : Checked → ℕ

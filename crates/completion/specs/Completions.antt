@@ -7,16 +7,19 @@ use lib.Dec.{eqb}
 use Rattle.types.specs.declared.Mount.{Mount}
 use Rattle.types.specs.declared.Row.{Row}
 use Rattle.types.specs.declared.Held.{Held}
+use Rattle.types.specs.declared.FileKind.{FileKind}
 use Rattle.types.specs.declared.Refusal.the-variants as refusal
 use Rattle.types.specs.declared.ZoneFault.the-variants as fault
 use Rattle.types.specs.declared.Answer.the-variants.{Refused, Done}
 use Rattle.types.specs.declared.ErrorPolicy.{ErrorPolicy}
 use Rattle.types.specs.declared.ErrorPolicy.the-variants.{RemountRo, ZoneRo, ZoneOffline, Repair}
-use Rattle.types.specs.declared.Store.{Store}
 use Rattle.types.specs.declared.Store.the-variants as store
 use Rattle.types.specs.declared.Effect.{Effect}
+use Rattle.types.specs.Codes.{isKind, kindFrom}
 use Rattle.types.specs.Effects.{refusing}
-use Rattle.types.specs.Mounts.{cleared, readOnly}
+use Rattle.types.specs.Mounts.{readOnly}
+use Rattle.table.specs.Rows.{cleared}
+use Rattle.checks.specs.Checks.{noKind}
 use Rattle.zones.specs.declared.Zone.{Zone}
 use Rattle.zones.specs.Zone.{zoneBytes, zoneAt}
 use Rattle.recovery.specs.Success.{rowAfter}
@@ -47,17 +50,20 @@ completionBy done given bytes = cond done good (completionOf given bytes)
 -- the count is the command's length, "0 but for reads and writes"
 unfoldable pub succeeded : Mount → Held → Row → Effect
 succeeded m h r = record {
-  outcome = record { answer = Done (h .command .length); mount = cleared m };
-  store = store.Put (h .kind) (h .number) (rowAfter (h .kind) (h .command) r);
+  outcome = record { answer = Done (h .command .length); mount = m };
+  store = store.Put (h .kind) (h .number) (cleared (rowAfter (h .kind) (h .command) r));
 }
 
 -- ---- a failure whose record fits: "Otherwise answer 7, command cleared."
 
--- the mount after it, the row that the file has then, and what is stored of it
-abbrev pub failing : Mount → Row → Store → Effect
-failing m r s = record { outcome = record { answer = Refused (refusal.Failed (r .size)); mount = m }; store = s }
+-- the mount after it, and the row that the file has then
+abbrev pub failing : Mount → Held → Row → Effect
+failing m h r = record {
+  outcome = record { answer = Refused (refusal.Failed (r .size)); mount = m };
+  store = store.Put (h .kind) (h .number) (cleared r);
+}
 
--- "Under remount-ro every recovery also marks the whole mount read-only."
+-- "Under remount-ro every recovery also marks the whole mount read-only."; 02: it "leaves other files' commands outstanding"
 abbrev pub markedBy : ErrorPolicy → Mount → Mount
 markedBy RemountRo m = readOnly m
 markedBy ZoneRo m = m
@@ -66,15 +72,15 @@ markedBy Repair m = m
 
 -- with the recovered row
 abbrev pub recovering : Mount → Held → Row → Effect
-recovering m h r = failing (markedBy (m .volume .policy) (cleared m)) r (store.Put (h .kind) (h .number) r)
+recovering m h r = failing (markedBy (m .volume .policy) m) h r
 
 -- "A failed read with .. recovers nothing. Every other failure applies 000's table"
 unfoldable pub recovered : Mount → Held → Row → Zone → Effect
 recovered m h r z =
-    cond (nothingLost (h .kind) (h .command .kind) z (r .size)) (failing (cleared m) r store.Nothing)
+    cond (nothingLost (h .kind) (h .command .kind) z (r .size)) (failing m h r)
     (recovering m h (recoveredRow (m .volume .policy) (h .kind) z r))
 
--- ---- "Checks: 8, 10, and on failure 9."
+-- ---- 02: "Completions check 10 (counts), 1, 8, 10 (row), 9.", the last on failure
 
 -- "Else 9, and the command stays outstanding."; 02: "Answers 29 and 9 carry it on", the reason. Bytes that are no record have none to name
 abbrev pub effectOn : Mount → Held → Row → Completion → Effect
@@ -88,6 +94,11 @@ abbrev pub effectPending : Mount → Pending → Completion → Effect
 effectPending m (pending.On h r) x = effectOn m h r x
 effectPending m (pending.Refused y) x = refusing m y
 
--- THE COMPLETIONS: 8, 10, and then as the disk tells
-unfoldable pub effectOf : Mount → List ℕ → List ℕ → Completion → Effect
-effectOf m cnv seq x = effectPending m (pendingOf m cnv seq) x
+-- THE COMPLETIONS: of the command that file i of a kind has outstanding, as the disk tells
+abbrev pub effectOf : Mount → List ℕ → List ℕ → FileKind → ℕ → Completion → Effect
+effectOf m cnv seq k i x = effectPending m (pendingOf m cnv seq k i) x
+
+-- of a kind that is given as a number: "kind byte 0 cnv or 1 seq", "a kind above 1 answers 1"
+unfoldable pub effectBy : Mount → List ℕ → List ℕ → ℕ → ℕ → Completion → Effect
+effectBy m cnv seq n i x =
+    cond (isKind n) (effectOf m cnv seq (kindFrom n) i x) (refusing m (noKind (m .volume) (length cnv) (length seq)))

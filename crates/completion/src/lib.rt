@@ -1,12 +1,13 @@
-// Completions: what the success or the failure of the held command answers, does to the mount, and stores of its file's row.
+// Completions: what the success or the failure of a file's held command answers, does to the mount, and stores of its row.
 ghost use mathlib.Core.Path.{_≡_};
 ghost use Rattle.recovery.specs.Facts.{Fitting};
 ghost use Rattle.held.specs.Facts.{Safe, PendingSafe};
-ghost use Rattle.completion.specs.Completions.{Completion, completionOf, completionBy, succeeded, failing, markedBy, recovering, recovered, effectOn, effectPending, effectOf};
+ghost use Rattle.completion.specs.Completions.{Completion, completionOf, completionBy, succeeded, failing, markedBy, recovering, recovered, effectOn, effectPending, effectOf, effectBy};
 use held::Pending;
 use types::Answer;
 use types::Effect;
 use types::ErrorPolicy;
+use types::FileKind;
 use types::Held;
 use types::Mount;
 use types::Outcome;
@@ -22,12 +23,11 @@ fn succeeded(m: Mount, h: Held, row: Row) -> Effect
 {
     let kind = h.kind;
     let command = h.command;
-    let after = recovery::success::row_after(kind, command, row);
-    let mount = types::mounts::without_held(m);
+    let after = table::cleared(recovery::success::row_after(kind, command, row));
     Effect {
         outcome: Outcome {
             answer: Answer::Done(command.length),
-            mount,
+            mount: m,
         },
         store: Store::Put(kind, h.number, after),
     }
@@ -44,16 +44,18 @@ fn marked_by(policy: ErrorPolicy, m: Mount) -> Mount
     }
 }
 
-// The command failed: the mount after it, the row that its file has then, and what is stored of it.
-fn failing(m: Mount, row: Row, store: Store) -> Effect
-    ensures { λ r. ⌜ r ≡ failing m row store ⌝ }
+// The command failed: the mount after it, and the row that its file has then.
+fn failing(m: Mount, h: Held, row: Row) -> Effect
+    ensures { λ r. ⌜ r ≡ failing m h row ⌝ }
 {
+    let kind = h.kind;
+    let left = table::cleared(row);
     Effect {
         outcome: Outcome {
             answer: Answer::Refused(Refusal::Failed(row.size)),
             mount: m,
         },
-        store,
+        store: Store::Put(kind, h.number, left),
     }
 }
 
@@ -62,9 +64,7 @@ fn recovering(m: Mount, h: Held, row: Row) -> Effect
 {
     let volume = m.volume;
     let policy = volume.policy;
-    let kind = h.kind;
-    let mount = marked_by(policy, types::mounts::without_held(m));
-    failing(mount, row, Store::Put(kind, h.number, row))
+    failing(marked_by(policy, m), h, row)
 }
 
 fn recovered(m: Mount, h: Held, row: Row, z: Zone) -> Effect
@@ -75,7 +75,7 @@ fn recovered(m: Mount, h: Held, row: Row, z: Zone) -> Effect
     let failed = command.kind;
     let kind = h.kind;
     if recovery::nothing_lost(kind, failed, z, row.size) {
-        return failing(types::mounts::without_held(m), row, Store::Nothing);
+        return failing(m, h, row);
     }
     let volume = m.volume;
     let policy = volume.policy;
@@ -125,18 +125,42 @@ fn effect_pending(m: Mount, p: Pending, done: bool, bytes: &[u8], given: bool) -
     }
 }
 
-// The outstanding command was done well, or it failed: then the bytes are its zone's record, and `given` says that the record states a
-// capacity. One row is read.
-pub fn end_command(
+// The command that a file has outstanding was done well, or it failed: then the bytes are its zone's record, and `given` says that the record
+// states a capacity. One row is read.
+fn end_command(
     m: Mount,
     cnv: &[u64],
     seq: &[u64],
+    kind: FileKind,
+    number: u32,
     done: bool,
     bytes: &[u8],
     given: bool,
 ) -> Effect
-    ensures { λ r. ⌜ r ≡ effectOf m (now (cnv .entry)) (now (seq .entry)) (completionBy done given (now (bytes .entry))) ⌝ }
+    ensures { λ r. ⌜ r ≡ effectOf m (now (cnv .entry)) (now (seq .entry)) kind number (completionBy done given (now (bytes .entry))) ⌝ }
 {
-    let p = held::find_pending(m, cnv, seq);
+    let p = held::find_pending(m, cnv, seq, kind, number);
     effect_pending(m, p, done, bytes, given)
+}
+
+// Of a file whose kind is given as a number.
+pub fn end_by(
+    m: Mount,
+    cnv: &[u64],
+    seq: &[u64],
+    kind: u64,
+    number: u32,
+    done: bool,
+    bytes: &[u8],
+    given: bool,
+) -> Effect
+    ensures { λ r. ⌜ r ≡ effectBy m (now (cnv .entry)) (now (seq .entry)) kind number (completionBy done given (now (bytes .entry))) ⌝ }
+{
+    if types::codes::is_kind(kind) {
+        let k = types::codes::kind_from(kind);
+        end_command(m, cnv, seq, k, number, done, bytes, given)
+    } else {
+        let v = m.volume;
+        types::effects::refusing(m, checks::no_kind(v, cnv.len(), seq.len()))
+    }
 }

@@ -4,6 +4,8 @@ use mathlib.Core.Bool.{Bool, true, false}
 use mathlib.Core.Path.{_≡_, refl, _∙_}
 use Prim.Native.Nat.{ℕ, _*_, _%_, _≤_, _<_}
 use Rattle.types.specs.declared.Row.{Row}
+use Rattle.types.specs.declared.Outstanding.{Outstanding}
+use Rattle.table.specs.Rows.{withOutstanding}
 use Rattle.types.specs.declared.FileKind.the-variants.{Sequential}
 use Rattle.types.specs.declared.Condition.{Condition}
 use Rattle.types.specs.declared.Condition.the-variants.{Healthy, ReadOnly, Offline}
@@ -71,6 +73,26 @@ pub record Agrees (b : ℕ) (p : ErrorPolicy) (z : DiskZone) (s : FileHistory) (
   pub start : r .start ≡ z .start
   pub capacity : r .capacity ≡ z .capacity * 512
   pub state : RowState b p z s r
+
+-- WHAT IS OUTSTANDING makes no difference.
+pub agrees-held : {b : ℕ} {p : ErrorPolicy} {z : DiskZone} {s : FileHistory} {r : Row} (o : Outstanding) → Agrees b p z s r → Agrees b p z s (withOutstanding r o)
+agrees-held {b} {p} {z} {s} {r} o a = record { kind = a .kind; sound = a .sound; inner = a .inner; start = a .start; capacity = a .capacity; state = by (a .state) }
+  where
+    by : RowState b p z s r → RowState b p z s (withOutstanding r o)
+    by (live l) =
+        live (record {
+          size = l .size;
+          access = l .access;
+          intact = l .intact;
+          known = l .known;
+          worse = l .worse;
+          last = l .last;
+          whole = l .whole;
+          fits = l .fits;
+          mounted = l .mounted;
+        })
+    by (dead d) =
+        dead (record { size = d .size; access = d .access; condition = d .condition; untouched = d .untouched; unhealthy = d .unhealthy; mounted = d .mounted })
 
 -- A ROW THAT CAN BE READ shows the last size.
 pub size-last : (p : ErrorPolicy) (s : Bool) (h : Condition) (last : ℕ) → isNone (accessOf p s h) ≡ false → sizeOf p s h last ≡ last

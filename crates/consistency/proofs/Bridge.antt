@@ -31,9 +31,6 @@ pub record Became (t : List ℕ) (i : ℕ) (r : Row) (new : List ℕ) : Type 0 w
 pub set-became : (t : List ℕ) (i : ℕ) (r : Row) → i < rowsLent (length t) → Became t i r (setRow t i r)
 set-became t i r h = record { here = rowAt-same t i r h; there = λ j d. rowAt-other t i j r d }
 
-pub still-became : (t : List ℕ) (i : ℕ) (r : Row) → rowAt t i ≡ Good r → Became t i r t
-still-became t i r h = record { here = h; there = λ j d. refl }
-
 -- THE BRIDGE: what becomes of a row of the words becomes of that row of the list.
 pub listed-became : {t : List ℕ} {rows : List Row} {k : ℕ} {i : ℕ} {r : Row} {new : List ℕ} → Listed t rows k → i < k → Became t i r new → Listed new (set rows i r) k
 listed-became {t} {rows} {k} {i} {r} {new} s l b = record { enough = simp length-set (s .enough); row = at }

@@ -7,7 +7,6 @@ use mathlib.Core.Path.{_≡_, refl, ap}
 use Prim.Native.Nat.{ℕ}
 use Rattle.types.specs.declared.ErrorPolicy.{ErrorPolicy}
 use Rattle.types.specs.declared.ErrorPolicy.the-variants.{RemountRo, ZoneRo, ZoneOffline, Repair}
-use Rattle.types.specs.declared.Outstanding.the-variants.{Idle}
 use Rattle.types.specs.declared.MountAnswer.the-variants.{Mounted}
 use Rattle.types.specs.declared.Verdict.the-variants.{Passed}
 use Rattle.types.specs.Stated.{AsStated}
@@ -15,7 +14,7 @@ use Rattle.types.specs.Verdicts.{refuse, andThen, answerAfter}
 use Rattle.wire.specs.Le.{le, little}
 use Rattle.crc32.specs.Crc.{crcFrom, crcByte, crcSteps, crcStep, superblockCrc}
 use Rattle.table.specs.Rows.{rowAt, setRow}
-use Rattle.calls.specs.Calls.{effectBy}
+use Rattle.calls.specs.Calls as calls
 use Rattle.superblock.specs.declared.SuperRead.{SuperRead}
 use Rattle.superblock.specs.SuperBlock.{encodeSuper, nonzero, superCheck, fieldsOf, superRead}
 use Rattle.text.specs.Text.{same}
@@ -32,14 +31,15 @@ use Rattle.decision.specs.Decision.{atOnce, readChecks, writeChecks, readRow, w
 use Rattle.recovery.specs.Fits.{matchesSequential, withinConventional, recordFits}
 use Rattle.recovery.specs.Recovery.{recoveredRow}
 use Rattle.held.specs.Held.{issuable, pendingOf}
-use Rattle.completion.specs.Completions.{completionOf, succeeded, recovered, effectOf}
+use Rattle.completion.specs.Completions.{completionOf, succeeded, recovered}
+use Rattle.completion.specs.Completions as completions
 use Rattle.engine.specs.Engine as engine
 use Rattle.disk.specs.Disk.{zoneHolding, moved, struck, allows, perform, reported}
 use Rattle.disk.specs.Shows.{showsZone, showsRecord, showsZones, shows}
 use Rattle.consistency.specs.FileHistory.{freshSize, atMount, unmoved, afterMishap, afterSuccess, afterFailure}
 use Rattle.consistency.specs.System.{fileZone, mounted, step, run, allTruthful}
 use Rattle.consistency.specs.Cases.{Setting, paper, aggregated, block512, zone4ReadOnly, zone4Full, blockIn, aggregates, report, superblock, uuid, optionText, mountUnder, casesOf}
-use Rattle.consistency.specs.Runs.{disk, replies, commandRuns, mishapRuns, exceptionRuns, fullRuns, otherRuns}
+use Rattle.consistency.specs.Runs.{disk, replies, commandRuns, mishapRuns, exceptionRuns, fullRuns, otherRuns, busyRuns}
 
 -- THE SUPER BLOCKS are good, and say this
 
@@ -70,16 +70,16 @@ cnvCount false = 2
 cnvCount true = 1
 
 abbrev cnvTable : Bool → List ℕ
-cnvTable false = 524288 ∷ 268435456 ∷ 268435456 ∷ 0 ∷ 2 ∷ 1048576 ∷ 268435456 ∷ 268435456 ∷ 0 ∷ 2 ∷ []
-cnvTable true = 524288 ∷ 536870912 ∷ 536870912 ∷ 0 ∷ 2 ∷ 7 ∷ 7 ∷ 7 ∷ 7 ∷ 7 ∷ []
+cnvTable false = 524288 ∷ 268435456 ∷ 268435456 ∷ 0 ∷ 2 ∷ 0 ∷ 0 ∷ 0 ∷ 1048576 ∷ 268435456 ∷ 268435456 ∷ 0 ∷ 2 ∷ 0 ∷ 0 ∷ 0 ∷ []
+cnvTable true = 524288 ∷ 536870912 ∷ 536870912 ∷ 0 ∷ 2 ∷ 0 ∷ 0 ∷ 0 ∷ 7 ∷ 7 ∷ 7 ∷ 7 ∷ 7 ∷ 7 ∷ 7 ∷ 7 ∷ []
 
--- size, condition and access of seq/1, whose zone may be read-only or full
+-- size, condition and access of seq/1, whose zone may be read-only or full, and nothing outstanding
 abbrev lastWords : Setting → List ℕ
-lastWords paper = 0 ∷ 0 ∷ 2 ∷ []
-lastWords aggregated = 0 ∷ 0 ∷ 2 ∷ []
-lastWords block512 = 0 ∷ 0 ∷ 2 ∷ []
-lastWords zone4ReadOnly = 0 ∷ 2 ∷ 0 ∷ []
-lastWords zone4Full = 201326592 ∷ 0 ∷ 2 ∷ []
+lastWords paper = 0 ∷ 0 ∷ 2 ∷ 0 ∷ 0 ∷ 0 ∷ []
+lastWords aggregated = 0 ∷ 0 ∷ 2 ∷ 0 ∷ 0 ∷ 0 ∷ []
+lastWords block512 = 0 ∷ 0 ∷ 2 ∷ 0 ∷ 0 ∷ 0 ∷ []
+lastWords zone4ReadOnly = 0 ∷ 2 ∷ 0 ∷ 0 ∷ 0 ∷ 0 ∷ []
+lastWords zone4Full = 201326592 ∷ 0 ∷ 2 ∷ 0 ∷ 0 ∷ 0 ∷ []
 
 abbrev pub mountGives : Setting → ErrorPolicy → Mounting
 mountGives x p = record {
@@ -87,10 +87,9 @@ mountGives x p = record {
   mount = record {
     volume = record { block = blockIn x; conventional = cnvCount (aggregates x); sequential = 2; owner = 0; group = 0; mode = 0o640; policy = p; uuid = uuid (aggregates x) };
     readonly = false;
-    outstanding = Idle;
   };
   cnv = cnvTable (aggregates x);
-  seq = 1572864 ∷ 201326592 ∷ 4096 ∷ 0 ∷ 2 ∷ 2097152 ∷ 201326592 ∷ lastWords x;
+  seq = 1572864 ∷ 201326592 ∷ 4096 ∷ 0 ∷ 2 ∷ 0 ∷ 0 ∷ 0 ∷ 2097152 ∷ 201326592 ∷ lastWords x;
 }
 
 pub mount-computed : (x : Setting) (p : ErrorPolicy) → mountUnder x p ≡ mountGives x p
@@ -122,10 +121,11 @@ pub record Computed : Type 0 where
   pub exceptions : AsStated (exceptionRuns mountGives)
   pub full : AsStated (fullRuns mountGives)
   pub others : AsStated (otherRuns mountGives)
+  pub busy : AsStated (busyRuns mountGives)
 
 pub computed : Computed
-unfolding casesOf commandRuns mishapRuns exceptionRuns fullRuns otherRuns disk little encodeZone le goodRecord
+unfolding casesOf commandRuns mishapRuns exceptionRuns fullRuns otherRuns busyRuns disk little encodeZone le goodRecord
     rowAt setRow countsFit lookupOf soundRow fileOf refuse answerAfter atOnce readChecks writeChecks readRow writeRow truncateRow flushRow dispatched
-    issuable pendingOf completionOf succeeded matchesSequential withinConventional recordFits recoveredRow recovered effectOf effectBy engine.step
+    issuable pendingOf completionOf succeeded matchesSequential withinConventional recordFits recoveredRow recovered calls.effectBy completions.effectBy engine.step
     moved struck allows perform reported showsZone showsRecord freshSize atMount unmoved afterMishap afterSuccess afterFailure zoneHolding fileZone mounted step run allTruthful replies
-computed = record { cases = refl; commands = refl; mishaps = refl; exceptions = refl; full = refl; others = refl }
+computed = record { cases = refl; commands = refl; mishaps = refl; exceptions = refl; full = refl; others = refl; busy = refl }

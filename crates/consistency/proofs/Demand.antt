@@ -11,7 +11,10 @@ use Rattle.types.specs.declared.Volume.{Volume}
 use Rattle.types.specs.declared.Command.{Command}
 use Rattle.types.specs.declared.FileKind.{FileKind}
 use Rattle.types.specs.declared.FileKind.the-variants.{Conventional, Sequential}
-use Rattle.types.specs.declared.Outstanding.the-variants.{Busy}
+use Rattle.types.specs.declared.Outstanding.the-variants.{Idle, Busy}
+use Rattle.types.specs.declared.Effect.{Effect}
+use Rattle.types.specs.Codes.{kindFrom}
+use Rattle.types.specs.Kinds.{filesOf}
 use Rattle.types.specs.Numbers.{answerNumber}
 use Rattle.types.specs.Blocks.{blockSectors}
 use Rattle.types.proofs.Blocks.{is-block}
@@ -24,26 +27,30 @@ use Rattle.files.specs.Files.{cnvRows, seqRows}
 use Rattle.mount.specs.Fill.{fill}
 use Rattle.mount.specs.Mount.{Mounting, fileZones, policyOf, aggregated, mountOutcome}
 use Rattle.report.proofs.Laws.{framed, zones-length, AllGood, report-told, report-good}
-use Rattle.engine.specs.Engine.{Input}
+use Rattle.completion.specs.Completions.{completionBy, effectOf}
+use Rattle.completion.proofs.Laws.{effect-fixes}
+use Rattle.table.proofs.Stores.{of-stored}
+use Rattle.engine.specs.Engine.{Input, applied}
 use Rattle.engine.specs.Engine as engine
 use Rattle.consistency.specs.Possible.{Possible, MountedPossible, NeverImpossible, FilesAreFound}
 use Rattle.consistency.proofs.Possible.{mounted-possible, never-impossible, files-are-found}
-use Rattle.disk.specs.Disk.{DiskZone}
+use Rattle.disk.specs.Disk.{DiskZone, Choice}
 use Rattle.disk.specs.Facts.{Shows, ShowsZones}
 use Rattle.disk.specs.Facts as shows
 use Rattle.disk.proofs.Shows.{shows-told, report-shows, record-shows}
 use Rattle.disk.proofs.SoundZone.{SoundZone}
 use Rattle.disk.proofs.Reported.{record-shown, record-small, sound-at, disk-shown, report-bytes}
 use Rattle.disk.proofs.Found.{zoneFound, zones-found}
-use Rattle.consistency.specs.System.{System, Event, run, allTruthful, mounted, zoneOf, historyOf, performIn}
+use Rattle.consistency.specs.System.{System, outstandingOn, Event, run, allTruthful, mounted, zoneOf, historyOf, performIn}
 use Rattle.consistency.specs.Claim.{AsPromised}
 use Rattle.consistency.specs.Demand.{Compares, Start, History, after, Fresh, freshMount, Consistent, Demand3, AlwaysStarted, AlwaysReported, Recorded, AlwaysRecorded, Digested, AlwaysDigested, AlwaysAnswered}
 use Rattle.consistency.proofs.Shown.{shownRow}
 use Rattle.consistency.proofs.Promised.{promised}
 use Rattle.consistency.proofs.Bridge.{noRow, fill-listed}
 use Rattle.consistency.proofs.Files.{files-sound, kinds}
-use Rattle.consistency.proofs.Effects.{holdOf}
-use Rattle.consistency.proofs.Steps.{Invariant, invariant-run, new, Told, truthful-told, performed-sound, seq-completed, cnv-completed, replied}
+use Rattle.consistency.proofs.Effects.{Completed}
+use Rattle.consistency.proofs.Busy.{row-on, busy-kind, kind-on, completion-on}
+use Rattle.consistency.proofs.Steps.{Invariant, invariant-run, known, new, Told, truthful-told, performed-sound, seq-completed, cnv-completed, replied}
 use Rattle.mount.proofs.Leaves.{cnvs, seqs, Accepts, accepts, leaves, mount-leaves}
 use Rattle.consistency.proofs.Start.{files-start, covers-start, covers-nth}
 use Rattle.consistency.proofs.Fresh.{all-good, seq-count, file-shown, cnv-count}
@@ -136,9 +143,9 @@ module _ (h : History) where
         let inside : n < length (seqRows (drop 1 (zonesOf (f .report)))) = omega (arith, l, seq-count (invariant .files) (seen .zones)) in
         fill-listed (f .seq) (seqRows (drop 1 (zonesOf (f .report)))) (again .seqFit) .row n inside ∙ ap Good (file-shown (invariant .files) (seen .zones) n l .row)
 
-    compares : (n : ℕ) → n < w .state .mount .volume .sequential → historyOf w n .quiet ≡ true
+    compares : (n : ℕ) → n < w .state .mount .volume .sequential → outstandingOn (w .state) Sequential n ≡ Idle → historyOf w n .quiet ≡ true
         → Compares (policyOf (optionsOf (h .options))) (historyOf w n) (zoneOf w n) (fill (f .seq) (seqRows (fileZones (f .report)))) (w .state .seq) n
-    compares n l q = record {
+    compares n l i q = record {
       row = getD (invariant .rows) n noRow;
       other = shownRow (zoneOf w n);
       here = invariant .listed .row n l;
@@ -154,24 +161,41 @@ module _ (h : History) where
 -- THE CLAIM
 pub demand3 : Demand3
 unfolding Demand3
-demand3 h idle f = consistent h f
+demand3 h f = consistent h f
 
--- A COMPLETION is answered 0 or 7, and then nothing is held.
+-- A COMPLETION is answered 0 or 7, and then its file holds nothing.
 reply-number : (t : Bool) (c : Command) (r : Row) → answerNumber (replied t c r) ≡ cond t 0 7
 reply-number true c r = refl
 reply-number false c r = refl
 
+module _ (h : History) (k : FileKind) (n : ℕ) (c : Command) (e : outstandingOn (after h .state) k n ≡ Busy c) (o : Choice) (given : Bool) (bytes : List ℕ) where
+  abbrev done : Effect
+  done = effectOf (after h .state .mount) (after h .state .cnv) (after h .state .seq) k n (completionBy (performIn (after h) c o .succeeded) given bytes)
+
+  completed-so : (k : FileKind) (e : outstandingOn (after h .state) k n ≡ Busy c) → Told (after h) c o given bytes → let x = new (invariant h) k n c e o given bytes in
+      Completed (after h .state .cnv) (after h .state .seq) k n x (replied (performIn (after h) c o .succeeded) c x)
+      (effectOf (after h .state .mount) (after h .state .cnv) (after h .state .seq) k n (completionBy (performIn (after h) c o .succeeded) given bytes))
+  completed-so Sequential e told = seq-completed (invariant h) n c o given bytes told e
+  completed-so Conventional e told = cnv-completed (invariant h) n c o given bytes told e
+
+  file-digested : Told (after h) c o given bytes → (answerNumber (done .outcome .answer) ≡ cond (performIn (after h) c o .succeeded) 0 7) × (outstandingOn (applied (after h .state) done) k n ≡ Idle)
+  file-digested told =
+      let g = completed-so k e told in
+      let s = after h .state in
+      let fixes = effect-fixes (s .mount) (s .cnv) (s .seq) k n (completionBy (performIn (after h) c o .succeeded) given bytes) in
+      let there = subst (λ (v : Volume). n < filesOf k v) (sym fixes) (known (invariant h) k n c e) in
+      let new = new (invariant h) k n c e o given bytes in (
+        ap answerNumber (g .answer) ∙ reply-number (performIn (after h) c o .succeeded) c new,
+        row-on (applied s done) k n new there (ap (λ (t : List ℕ). rowAt t n) (of-stored k (done .store) (s .cnv) (s .seq)) ∙ g .here .here),
+      )
+
 pub always-digested : AlwaysDigested
 unfolding AlwaysDigested engine.step
-always-digested h c e o given bytes t = by (c .kind) (c .number) (c .command) e (truthful-told (after h) c e o given bytes t)
-  where
-    by : (k : FileKind) (n : ℕ) (d : Command) → after h .state .mount .outstanding ≡ Busy (holdOf k n d) → Told (after h) d o given bytes → Digested (after h) d o given bytes
-    by Sequential n d e told =
-        let g = seq-completed (invariant h) n d o given bytes told e in
-        record { number = ap answerNumber (g .answer) ∙ reply-number (performIn (after h) d o .succeeded) d (new (invariant h) Sequential n d e o given bytes); idle = g .idle }
-    by Conventional n d e told =
-        let g = cnv-completed (invariant h) n d o given bytes told e in
-        record { number = ap answerNumber (g .answer) ∙ reply-number (performIn (after h) d o .succeeded) d (new (invariant h) Conventional n d e o given bytes); idle = g .idle }
+always-digested h kind n c e o given bytes t =
+    let (is, on) = busy-kind (after h .state) kind n c e in
+    let (number, idle) = file-digested h (kindFrom kind) n c on o given bytes (truthful-told (after h) kind n c e o given bytes t) in
+    let same = completion-on (after h .state) kind n (completionBy (performIn (after h) c o .succeeded) given bytes) is in
+    record { number = rw same number; idle = rw same (kind-on (applied (after h .state) (done h (kindFrom kind) n c on o given bytes)) kind n is ∙ idle) }
 
 -- A REPORT that shows the disk
 shown-length : {rs : List Zone} {zs : List DiskZone} → ShowsZones rs zs → length rs ≡ length zs
@@ -200,7 +224,7 @@ pub always-recorded : AlwaysRecorded
 unfolding AlwaysRecorded
 always-recorded h = record {
   zones = λ i l. recorded (sound-at (files-sound (invariant h .files)) i l);
-  doings = λ c e o. recorded (performed-sound (invariant h) (c .kind) (c .number) (c .command) o e);
+  doings = λ kind n c e o. recorded (performed-sound (invariant h) (kindFrom kind) n c o (busy-kind (after h .state) kind n c e .1));
 }
 
 -- A DISK that a mount's report shows
@@ -217,4 +241,4 @@ pub always-answered : AlwaysAnswered
 unfolding AlwaysAnswered NeverImpossible FilesAreFound
 always-answered h kind n x =
     let p = invariant h .possible in
-    record { possible = never-impossible (after h .state) (Input.call kind n x) p; found = λ k l. files-are-found (after h .state) kind n x p k l }
+    record { possible = never-impossible (after h .state) (Input.call kind n x) p; found = λ k l. files-are-found (after h .state) (Input.call kind n x) p (k, l) }

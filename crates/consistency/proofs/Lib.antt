@@ -18,6 +18,7 @@ pub mod Bridge
 pub mod Files
 pub mod Fits
 pub mod Effects
+pub mod Busy
 pub mod Steps
 pub mod Start
 pub mod Fresh

@@ -2,12 +2,14 @@
 -- Assumes nothing.
 use Prim.Native.Nat.{ℕ, _≤_}
 use native.Mathlib.Omega.{arith}
-use mathlib.Core.Path.{_≡_}
+use mathlib.Core.Path.{_≡_, sym, subst}
 use mathlib.Core.List.{List}
 use lib.ListN.{length, getD, length-drop}
 use Rattle.types.specs.declared.Row.{Row}
 use Rattle.types.specs.declared.FileKind.{FileKind}
 use Rattle.types.specs.declared.FileKind.the-variants.{Conventional, Sequential}
+use Rattle.types.specs.declared.Outstanding.{Outstanding}
+use Rattle.types.specs.declared.Outstanding.the-variants.{Idle}
 use Rattle.types.specs.Blocks.{blockSectors, mostFiles}
 use Rattle.types.specs.Kinds.{ofKind, filesOf}
 use Rattle.types.proofs.Blocks.{is-block}
@@ -20,9 +22,9 @@ use Rattle.mount.proofs.Leaves.{cnvs, seqs, Accepts, leaves}
 use Rattle.mount.proofs.Tables.{filled-row, fill-length}
 use Rattle.checks.proofs.Laws.{counts-in, row-sound}
 use Rattle.engine.specs.Engine.{State, mounted}
-use Rattle.consistency.specs.Possible.{IsFile, RowPossible, Possible}
+use Rattle.consistency.specs.Possible.{IsFile, HeldPossible, RowPossible, Possible}
 use Rattle.consistency.proofs.Bridge.{noRow}
-use Rattle.consistency.proofs.Rows.{AllSound, sound-nth, seq-rows-sound, cnv-rows-sound}
+use Rattle.consistency.proofs.Rows.{AllSound, sound-nth, idle-nth, seq-rows-sound, cnv-rows-sound}
 
 module _ (block : ℕ) (superblock options report cnv seq : List ℕ) (t : Accepts block superblock options report cnv seq) where
   abbrev plain : List Row
@@ -50,11 +52,14 @@ module _ (block : ℕ) (superblock options report cnv seq : List ℕ) (t : Accep
   abbrev state : State
   state = mounted (leaves block superblock options report cnv seq)
 
+  nothing-held : (b : ℕ) (k : FileKind) (r : Row) (o : Outstanding) → o ≡ Idle → HeldPossible b k r o
+  nothing-held b k r o e = subst (HeldPossible b k r) (sym e) tt
+
   rows : (k : FileKind) (n : ℕ) → IsFile state k n → RowPossible state k n
   rows Conventional n h =
-      record { row = getD plain n noRow; reads = filled-row cnv plain n noRow h (t .cnvFit); sound = row-sound block Conventional _ (sound-nth cnv-sound n noRow h) }
+      record { row = getD plain n noRow; reads = filled-row cnv plain n noRow h (t .cnvFit); sound = row-sound block Conventional _ (sound-nth cnv-sound n noRow h); held = nothing-held block Conventional _ _ (idle-nth cnv-sound n noRow h) }
   rows Sequential n h =
-      record { row = getD written n noRow; reads = filled-row seq written n noRow h (t .seqFit); sound = row-sound block Sequential _ (sound-nth seq-sound n noRow h) }
+      record { row = getD written n noRow; reads = filled-row seq written n noRow h (t .seqFit); sound = row-sound block Sequential _ (sound-nth seq-sound n noRow h); held = nothing-held block Sequential _ _ (idle-nth seq-sound n noRow h) }
 
   lent : (k : FileKind) → filesOf k (state .mount .volume) ≤ rowsLent (ofKind k (length (state .cnv)) (length (state .seq)))
   lent Conventional = rw (fill-length cnv plain (t .cnvFit)) (t .cnvFit)
@@ -69,5 +74,4 @@ module _ (block : ℕ) (superblock options report cnv seq : List ℕ) (t : Accep
       record {
         counts = counts-in (state .mount .volume) (length (state .cnv)) (length (state .seq)) lent few (t .unit);
         rows = rows;
-        held = λ h e. let x : _≡_ {A = ℕ} 0 1 = cc in absurd (omega arith);
       }

@@ -1,27 +1,25 @@
--- What is possible stays possible: no step is answered 10, and no call on a file is answered 1. And so of every run, from a mount answered 0.
+-- What is possible stays possible: no step is answered 10, and none about a file that there is is answered 1. And so of every run, from a mount answered 0.
 -- Assumes nothing.
 use Prim.Native.Nat.{_<_}
 use native.Mathlib.Omega.{arith}
 use mathlib.Core.Path.{sym, subst}
 use mathlib.Core.Logic.{_≢_}
-use mathlib.Core.Bool.{Bool, true, false, cond}
 use mathlib.Core.List.{List, [], _∷_}
-use lib.ListN.{length}
 use Rattle.types.specs.declared.Volume.{Volume}
-use Rattle.types.specs.Codes.{isKind, kindFrom}
-use Rattle.types.specs.Effects.{refusing}
+use Rattle.types.specs.Codes.{kindFrom}
 use Rattle.types.specs.Kinds.{filesOf}
 use Rattle.types.specs.Numbers.{answerNumber}
 use Rattle.mount.specs.Mount.{Mounting, mountOutcome}
 use Rattle.mount.proofs.Leaves.{accepts, mount-leaves}
-use Rattle.checks.specs.Checks.{noKind}
 use Rattle.calls.specs.Calls as calls
+use Rattle.completion.specs.Completions as completions
 use Rattle.engine.specs.Engine.{State, mounted, Input, call, completion, step, run}
+use Rattle.engine.specs.Frame.{kindIn, numberIn}
 use Rattle.consistency.specs.Possible.{Possible, impossible, MountedPossible, StaysPossible, NeverImpossible, FilesAreFound, NoneIs, RunNeverImpossible, RunFindsFiles}
-use Rattle.engine.proofs.Laws.{run-fixes}
+use Rattle.engine.proofs.Laws.{call-by, completion-by, run-fixes}
 use Rattle.consistency.proofs.Mounted.{leaves-possible}
-use Rattle.consistency.proofs.Kept.{call-possible, completion-possible}
-use Rattle.consistency.proofs.Replies.{file-ordinary, call-answer, completion-answer, settled-answer}
+use Rattle.consistency.proofs.Kept.{input-possible}
+use Rattle.consistency.proofs.Replies.{file-ordinary, call-answer, completion-ordinary, completion-answer}
 
 -- A MOUNT ANSWERED 0 leaves what is possible.
 pub mounted-possible : MountedPossible
@@ -34,24 +32,21 @@ mounted-possible block superblock options report cnv seq zeroed =
 -- WHAT IS POSSIBLE STAYS POSSIBLE.
 pub stays-possible : StaysPossible
 unfolding StaysPossible step
-stays-possible s (call kind n x) p = call-possible p kind n x
-stays-possible s (completion x) p = completion-possible p x
+stays-possible s x p = input-possible p x
 
 -- NO STEP IS ANSWERED 10.
 pub never-impossible : NeverImpossible
-unfolding NeverImpossible step calls.effectBy
-never-impossible s (call kind n x) p = by (isKind kind)
-  where
-    by : (t : Bool) → answerNumber (cond t (calls.effectOf (s .mount) (s .cnv) (s .seq) (kindFrom kind) n x) (refusing (s .mount) (noKind (s .mount .volume) (length (s .cnv)) (length (s .seq)))) .outcome .answer) ≢ impossible
-    by true = rw (settled-answer (s .mount) (kindFrom kind) n (calls.answered (s .mount) (s .cnv) (s .seq) (kindFrom kind) n x)) (call-answer p (kindFrom kind) n x)
-    by false = rw (p .counts) (λ q. omega arith)
-never-impossible s (completion x) p = completion-answer p x
+unfolding NeverImpossible step
+never-impossible s (call kind n x) p =
+    call-by (s .mount) (s .cnv) (s .seq) (λ d. answerNumber (d .outcome .answer) ≢ impossible) kind n x (λ e. call-answer p (kindFrom kind) n x) (rw (p .counts) (λ q. omega arith))
+never-impossible s (completion kind n x) p =
+    completion-by (s .mount) (s .cnv) (s .seq) (λ d. answerNumber (d .outcome .answer) ≢ impossible) kind n x (λ e. completion-answer p (kindFrom kind) n x) (rw (p .counts) (λ q. omega arith))
 
--- NO CALL ON A FILE IS ANSWERED 1.
+-- NOTHING ABOUT A FILE THAT THERE IS IS ANSWERED 1.
 pub files-are-found : FilesAreFound
-unfolding FilesAreFound step calls.effectBy
-files-are-found s kind n x p is h =
-    rw (is, settled-answer (s .mount) (kindFrom kind) n (calls.answered (s .mount) (s .cnv) (s .seq) (kindFrom kind) n x)) (file-ordinary p (kindFrom kind) n x h .found)
+unfolding FilesAreFound step calls.effectBy completions.effectBy
+files-are-found s (call kind n x) p (is, h) = rw is (file-ordinary p (kindFrom kind) n x h .found)
+files-are-found s (completion kind n x) p (is, h) = rw is (completion-ordinary p (kindFrom kind) n x h .found)
 
 -- A RUN, from a mount answered 0
 
@@ -71,7 +66,7 @@ run-never-impossible block superblock options report cnv seq zeroed inputs = run
 
 pub run-finds-files : RunFindsFiles
 unfolding RunFindsFiles MountedPossible FilesAreFound
-run-finds-files block superblock options report cnv seq zeroed inputs kind n x is h =
+run-finds-files block superblock options report cnv seq zeroed inputs x (is, h) =
     let s = mounted (mountOutcome block superblock options report cnv seq) in
     let p = run-possible s inputs (mounted-possible block superblock options report cnv seq zeroed) in
-    files-are-found (run s inputs .state) kind n x p is (subst (λ (v : Volume). n < filesOf (kindFrom kind) v) (sym (run-fixes s inputs)) h)
+    files-are-found (run s inputs .state) x p (is, subst (λ (v : Volume). numberIn x < filesOf (kindFrom (kindIn x)) v) (sym (run-fixes s inputs)) h)

@@ -2,7 +2,7 @@
 -- Assumes nothing.
 use Prim.Native.Nat.{ℕ}
 use native.Mathlib.Omega.{arith}
-use mathlib.Core.Path.{_≡_, refl}
+use mathlib.Core.Path.{_≡_, refl, subst}
 use mathlib.Core.Logic.{_≢_}
 use mathlib.Core.Bool.{Bool, true, false, cond}
 use Rattle.types.specs.declared.Mount.{Mount}
@@ -15,29 +15,29 @@ use Rattle.types.specs.declared.Verdict.{Verdict}
 use Rattle.types.specs.declared.Verdict.the-variants as verdict
 use Rattle.types.specs.declared.Answer.{Answer}
 use Rattle.types.specs.declared.Answer.the-variants.{Refused, Done, Issue}
-use Rattle.types.specs.declared.Store.the-variants as store
 use Rattle.types.specs.declared.Outstanding.{Outstanding}
-use Rattle.types.specs.declared.Outstanding.the-variants.{Idle, Busy}
+use Rattle.types.specs.declared.Outstanding.the-variants.{Idle, Busy, Unknown}
 use Rattle.types.specs.declared.Call.{Call}
 use Rattle.types.specs.declared.Command.{Command}
 use Rattle.types.specs.Effects.{refusing}
-use Rattle.types.specs.Mounts.{cleared}
 use Rattle.types.specs.Numbers.{verdictNumber, refusalNumber, answerNumber}
 use Rattle.types.specs.Verdicts.{refuse, answerAfter}
 use Rattle.checks.specs.declared.Lookup.{Lookup}
 use Rattle.checks.specs.declared.Lookup.the-variants as lookup
 use Rattle.checks.specs.Checks.{lookupOf}
-use Rattle.checks.proofs.Laws.{lookup-some, reached-file, file-none}
+use Rattle.checks.specs.Facts.{Reached}
+use Rattle.checks.proofs.Laws.{lookup-some, file-none}
 use Rattle.decision.specs.Decision.{atOnce, readChecks, readRow, writeChecks, writeRow, truncateRow, flushRow, answerOn, dispatched}
 use Rattle.calls.specs.Calls as calls
+use Rattle.calls.proofs.Laws.{call-reached, settled-answer}
 use Rattle.recovery.specs.Fits.{recordFits, misfit}
 use Rattle.recovery.specs.Recovery.{nothingLost, recoveredRow}
 use Rattle.completion.specs.Completions.{Completion, good, failed, malformed, succeeded, recovered, failing, recovering, effectOn}
 use Rattle.completion.specs.Completions as completions
-use Rattle.completion.proofs.Laws.{effect-ready, effect-idle}
+use Rattle.completion.proofs.Laws.{effect-ready, effect-idle, effect-none}
 use Rattle.engine.specs.Engine.{State}
-use Rattle.consistency.specs.Possible.{IsFile, Possible, impossible, noFile}
-use Rattle.consistency.proofs.Kept.{possible-call}
+use Rattle.consistency.specs.Possible.{IsFile, HeldPossible, Possible, impossible, noFile}
+use Rattle.consistency.proofs.Kept.{possible-call, held-reached, possible-ready}
 
 -- an answer, and what checks find, that is neither
 pub record Ordinary (a : Answer) : Type 0 where
@@ -102,47 +102,52 @@ call-ordinary m k r x =
 -- FROM WHAT IS POSSIBLE
 
 -- a completion that passes 10
-ready-answer : (m : Mount) (h : Held) (r : Row) (x : Completion) → answerNumber (effectOn m h r x .outcome .answer) ≢ impossible
+ready-answer : (m : Mount) (h : Held) (r : Row) (x : Completion) → Ordinary (effectOn m h r x .outcome .answer)
 unfolding succeeded recovered
-ready-answer m h r good = λ q. omega arith
+ready-answer m h r good = record { found = λ q. omega arith; possible = λ q. omega arith }
 ready-answer m h r (failed z) = by (recordFits (m .volume .block) (h .kind) r z) (nothingLost (h .kind) (h .command .kind) z (r .size))
   where
     new : Row
     new = recoveredRow (m .volume .policy) (h .kind) z r
 
     by : (fits kept : Bool)
-        → answerNumber (cond fits (cond kept (failing (cleared m) r store.Nothing) (recovering m h new)) (refusing m (refusal.BadRecord (misfit (m .volume .block) (h .kind) r z))) .outcome .answer)
-        ≢ impossible
-    by false kept = λ q. omega arith
-    by true false = λ q. omega arith
-    by true true = λ q. omega arith
-ready-answer m h r malformed = λ q. omega arith
+        → Ordinary (cond fits (cond kept (failing m h r) (recovering m h new)) (refusing m (refusal.BadRecord (misfit (m .volume .block) (h .kind) r z))) .outcome .answer)
+    by false kept = record { found = λ q. omega arith; possible = λ q. omega arith }
+    by true false = record { found = λ q. omega arith; possible = λ q. omega arith }
+    by true true = record { found = λ q. omega arith; possible = λ q. omega arith }
+ready-answer m h r malformed = record { found = λ q. omega arith; possible = λ q. omega arith }
 
 module _ {s : State} (p : Possible s) where
   -- a call on a file
-  pub file-ordinary : (k : FileKind) (n : ℕ) (x : Call) → IsFile s k n → Ordinary (calls.answered (s .mount) (s .cnv) (s .seq) k n x)
+  pub file-ordinary : (k : FileKind) (n : ℕ) (x : Call) → IsFile s k n → Ordinary (calls.effectOf (s .mount) (s .cnv) (s .seq) k n x .outcome .answer)
   file-ordinary k n x h =
       let (r, w) = possible-call p k n h in
-      rw (reached-file (s .mount .volume) (s .cnv) (s .seq) k n r w) (call-ordinary (s .mount) k r x)
+      rw (call-reached (s .mount) (s .cnv) (s .seq) k n x r w, settled-answer (s .mount) (s .cnv) (s .seq) k n x r (calls.onRow (s .mount) k r x)) (call-ordinary (s .mount) k r x)
 
   -- a call on a file that there is, or that there is not
-  pub call-answer : (k : FileKind) (n : ℕ) (x : Call) → answerNumber (calls.answered (s .mount) (s .cnv) (s .seq) k n x) ≢ impossible
+  pub call-answer : (k : FileKind) (n : ℕ) (x : Call) → answerNumber (calls.effectOf (s .mount) (s .cnv) (s .seq) k n x .outcome .answer) ≢ impossible
   call-answer k n x = by (lookupOf (s .mount .volume) (s .cnv) (s .seq) k n) refl
     where
-      by : (y : Lookup) → lookupOf (s .mount .volume) (s .cnv) (s .seq) k n ≡ y → answerNumber (calls.answered (s .mount) (s .cnv) (s .seq) k n x) ≢ impossible
+      by : (y : Lookup) → lookupOf (s .mount .volume) (s .cnv) (s .seq) k n ≡ y → answerNumber (calls.effectOf (s .mount) (s .cnv) (s .seq) k n x .outcome .answer) ≢ impossible
       by (lookup.Found y) e = file-ordinary k n x (lookup-some (s .mount .volume) (s .cnv) (s .seq) k n y e) .possible
       by lookup.Nothing e = rw (file-none (s .mount .volume) (s .cnv) (s .seq) k n (p .counts) e) (λ q. omega arith)
 
-  -- a completion
-  pub completion-answer : (x : Completion) → answerNumber (completions.effectOf (s .mount) (s .cnv) (s .seq) x .outcome .answer) ≢ impossible
-  completion-answer x = by (s .mount .outstanding) refl
-    where
-      by : (o : Outstanding) → s .mount .outstanding ≡ o → answerNumber (completions.effectOf (s .mount) (s .cnv) (s .seq) x .outcome .answer) ≢ impossible
-      by Idle e = rw (effect-idle (s .mount) (s .cnv) (s .seq) x e) (λ q. omega arith)
-      by (Busy h) e = let w = p .held h e in rw (effect-ready (s .mount) (s .cnv) (s .seq) h (w .row) x (w .ready)) (ready-answer (s .mount) h (w .row) x)
+  -- a completion of a file's command
+  file-answer : (k : FileKind) (n : ℕ) (x : Completion) (r : Row) → Reached (s .mount .volume) (s .cnv) (s .seq) k n r → (o : Outstanding) → r .outstanding ≡ o
+      → Ordinary (completions.effectOf (s .mount) (s .cnv) (s .seq) k n x .outcome .answer)
+  file-answer k n x r w Idle e =
+      rw (effect-idle (s .mount) (s .cnv) (s .seq) k n r x w e) (record { found = λ q. omega arith; possible = λ q. omega arith })
+  file-answer k n x r w (Busy c) e =
+      rw (effect-ready (s .mount) (s .cnv) (s .seq) k n c r x (possible-ready p k n c r w e)) (ready-answer (s .mount) (record { kind = k; number = n; command = c }) r x)
+  file-answer k n x r w Unknown e = absurd (subst (HeldPossible (s .mount .volume .block) k r) e (held-reached p k n r w))
 
--- a call's reply is its answer
-pub settled-answer : (m : Mount) (k : FileKind) (n : ℕ) (a : Answer) → calls.settled m k n a .outcome .answer ≡ a
-settled-answer m k n (Refused y) = refl
-settled-answer m k n (Done count) = refl
-settled-answer m k n (Issue c) = refl
+  pub completion-ordinary : (k : FileKind) (n : ℕ) (x : Completion) → IsFile s k n → Ordinary (completions.effectOf (s .mount) (s .cnv) (s .seq) k n x .outcome .answer)
+  completion-ordinary k n x h = let (r, w) = possible-call p k n h in file-answer k n x r w (r .outstanding) refl
+
+  -- of a file that there is, or that there is not
+  pub completion-answer : (k : FileKind) (n : ℕ) (x : Completion) → answerNumber (completions.effectOf (s .mount) (s .cnv) (s .seq) k n x .outcome .answer) ≢ impossible
+  completion-answer k n x = by (lookupOf (s .mount .volume) (s .cnv) (s .seq) k n) refl
+    where
+      by : (y : Lookup) → lookupOf (s .mount .volume) (s .cnv) (s .seq) k n ≡ y → answerNumber (completions.effectOf (s .mount) (s .cnv) (s .seq) k n x .outcome .answer) ≢ impossible
+      by (lookup.Found y) e = completion-ordinary k n x (lookup-some (s .mount .volume) (s .cnv) (s .seq) k n y e) .possible
+      by lookup.Nothing e = rw (effect-none (s .mount) (s .cnv) (s .seq) k n x (p .counts) e) (λ q. omega arith)

@@ -1,4 +1,4 @@
--- The rows of a good report's files are sound.
+-- The rows of a good report's files are sound, and have nothing outstanding.
 -- Assumes nothing.
 use mathlib.Core.Bool.{Bool, true, false, not, _&&_, _||_, false≢true}
 use mathlib.Core.List.{List, [], _∷_, map}
@@ -12,6 +12,7 @@ use lib.ListN.{length, getD, drop}
 use Rattle.types.specs.declared.Row.{Row}
 use Rattle.types.specs.declared.FileKind.{FileKind}
 use Rattle.types.specs.declared.FileKind.the-variants.{Conventional, Sequential}
+use Rattle.types.specs.declared.Outstanding.the-variants.{Idle}
 use Rattle.types.specs.Blocks.{bytesOf, blockSectors, onBlock}
 use Rattle.types.proofs.Blocks.{IsBlock}
 use Rattle.types.proofs.Tests.{both, and-left, and-right, means-out}
@@ -115,16 +116,25 @@ zone-good {b} {at} {z} {zs} block inner on (g, rest) =
 -- ROWS, all of them sound
 pub data AllSound (b : ℕ) (k : FileKind) : List Row → Type 0 where
   none : AllSound b k []
-  next : {r : Row} {rs : List Row} → SoundRow b k r → AllSound b k rs → AllSound b k (r ∷ rs)
+  next : {r : Row} {rs : List Row} → SoundRow b k r → r .outstanding ≡ Idle → AllSound b k rs → AllSound b k (r ∷ rs)
 
 pub sound-nth : {b : ℕ} {k : FileKind} {rows : List Row} → AllSound b k rows → (n : ℕ) (d : Row) → n < length rows → SoundRow b k (getD rows n d)
 sound-nth none n d h = absurd (omega arith)
-sound-nth (next s all) zero d h = s
-sound-nth (next {rs = rs} s all) (suc n) d h = let k : n < length rs = omega arith in sound-nth all n d k
+sound-nth (next s i all) zero d h = s
+sound-nth (next {rs = rs} s i all) (suc n) d h = let k : n < length rs = omega arith in sound-nth all n d k
 
-if-sound : {b : ℕ} {k : FileKind} {r : Row} {rs : List Row} (t : Bool) → (t ≡ true → SoundRow b k r) → AllSound b k rs → AllSound b k (rowIf t r rs)
-if-sound true s all = next (s refl) all
-if-sound false s all = all
+pub idle-nth : {b : ℕ} {k : FileKind} {rows : List Row} → AllSound b k rows → (n : ℕ) (d : Row) → n < length rows → getD rows n d .outstanding ≡ Idle
+idle-nth none n d h = absurd (omega arith)
+idle-nth (next s i all) zero d h = i
+idle-nth (next {rs = rs} s i all) (suc n) d h = let k : n < length rs = omega arith in idle-nth all n d k
+
+file-idle : (well : Bool) (start capacity size : ℕ) → fileRow well start capacity size .outstanding ≡ Idle
+file-idle true start capacity size = refl
+file-idle false start capacity size = refl
+
+if-sound : {b : ℕ} {k : FileKind} {r : Row} {rs : List Row} (t : Bool) → (t ≡ true → SoundRow b k r) → r .outstanding ≡ Idle → AllSound b k rs → AllSound b k (rowIf t r rs)
+if-sound true s i all = next (s refl) i all
+if-sound false s i all = all
 
 -- THE SEQUENTIAL FILES
 seqs-sound : {b : ℕ} → IsBlock b → (at : ℕ) (zs : List Zone) → 0 < at → at % blockSectors b ≡ 0 → AllGood (blockSectors b) at zs → AllSound b Sequential (seqRows zs)
@@ -132,7 +142,7 @@ unfolding seqRows
 seqs-sound block at [] inner on good = none
 seqs-sound block at (z ∷ zs) inner on good =
     let t = zone-good block inner on good in
-    if-sound (sequential z) (λ s. file-sound Sequential (healthy z) block (t .lies) (λ h. t .size (both s h)) (λ e. absurd (differ e)))
+    if-sound (sequential z) (λ s. file-sound Sequential (healthy z) block (t .lies) (λ h. t .size (both s h)) (λ e. absurd (differ e))) (file-idle (healthy z) _ _ _)
     (seqs-sound block (at + z .length) zs (omega arith) (t .next) (t .rest))
 
 -- THE CONVENTIONAL FILES. Each run lies where its zones lie.
@@ -190,6 +200,7 @@ runs-sound block none = none
 runs-sound block (next {g = g} l all) =
     next
     (file-sound Conventional (allHealthy g) block l (λ h. record { blocks = bytes-whole block (capacityOf g) (l .whole); within = omega arith }) (λ e. refl))
+    (file-idle (allHealthy g) _ _ _)
     (runs-sound block all)
 
 -- "Zone 0 never": the others start past it

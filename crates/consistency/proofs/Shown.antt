@@ -5,6 +5,7 @@ use mathlib.Core.Path.{_≡_, refl, ap, _∙_}
 use Prim.Native.Nat.{ℕ, _-_, _*_}
 use native.Mathlib.Omega.{arith}
 use Rattle.types.specs.declared.Row.{Row}
+use Rattle.types.specs.declared.Outstanding.the-variants.{Idle}
 use Rattle.types.specs.declared.FileKind.the-variants.{Sequential}
 use Rattle.types.specs.declared.Condition.{Condition}
 use Rattle.types.specs.declared.Condition.the-variants.{Healthy, ReadOnly, Offline}
@@ -25,7 +26,7 @@ writtenTo z = (z .pointer - z .start) * 512
 
 -- a healthy file's row, or one kept as offline
 abbrev pub rowBy : Bool → ℕ → ℕ → ℕ → Row
-rowBy t s c n = record { start = s; capacity = c; size = cond t n 0; condition = cond t Healthy Offline; access = cond t Access.Write Access.Nothing }
+rowBy t s c n = record { start = s; capacity = c; size = cond t n 0; condition = cond t Healthy Offline; access = cond t Access.Write Access.Nothing; outstanding = Idle }
 
 abbrev pub shownRow : DiskZone → Row
 shownRow z = rowBy (isHealthy (z .condition)) (z .start) (z .capacity * 512) (writtenTo z)

@@ -1,14 +1,13 @@
--- Every truthful event keeps the invariant of the system, and no truthful completion is answered 8, 9 or 10.
+-- Every truthful event keeps the invariant of the system, and no truthful completion is answered 1, 8, 9 or 10.
 -- Assumes nothing.
 use mathlib.Core.Bool.{Bool, true, false, not, cond, _&&_, _||_}
 use mathlib.Core.List.{List, [], _∷_}
-use mathlib.Core.Path.{_≡_, refl, sym, _∙_, subst}
+use mathlib.Core.Path.{_≡_, refl, sym, ap, _∙_, subst}
 use Prim.Native.Nat.{ℕ, _<_}
 use lib.ListN.{length, getD, set}
 use borrow.Author.Tests.{eq-eqb}
 use Rattle.types.specs.declared.Row.{Row}
 use Rattle.types.specs.declared.Volume.{Volume}
-use Rattle.types.specs.declared.Held.{Held}
 use Rattle.types.specs.declared.Call.{Call}
 use Rattle.types.specs.declared.Command.{Command}
 use Rattle.types.specs.declared.Condition.{Condition}
@@ -17,16 +16,23 @@ use Rattle.types.specs.declared.FileKind.the-variants.{Conventional, Sequential
 use Rattle.types.specs.declared.ErrorPolicy.{ErrorPolicy}
 use Rattle.types.specs.declared.Refusal.the-variants as refusal
 use Rattle.types.specs.declared.Answer.{Answer}
-use Rattle.types.specs.declared.Answer.the-variants.{Refused, Done}
+use Rattle.types.specs.declared.Answer.the-variants.{Refused, Done, Issue}
+use Rattle.types.specs.declared.Store.the-variants as store
+use Rattle.types.specs.Codes.{kindFrom}
 use Rattle.types.specs.declared.Outstanding.{Outstanding}
-use Rattle.types.specs.declared.Outstanding.the-variants.{Idle, Busy}
+use Rattle.types.specs.declared.Outstanding.the-variants.{Idle, Busy, Unknown}
 use Rattle.types.specs.Kinds.{ofKind, filesOf}
 use Rattle.types.proofs.Tests.{and-left, and-right}
 use Rattle.types.proofs.Blocks.{IsBlock}
 use Rattle.table.specs.declared.Slot.the-variants.{Good}
-use Rattle.table.specs.Rows.{rowAt, stored}
+use Rattle.table.specs.Rows.{rowAt, stored, withOutstanding, cleared}
+use Rattle.checks.specs.declared.Lookup.{Lookup}
+use Rattle.checks.specs.declared.Lookup.the-variants as lookup
+use Rattle.checks.specs.Checks.{lookupOf}
+use Rattle.checks.specs.Facts.{Reached}
+use Rattle.checks.proofs.Laws.{lookup-some, reached-lent, reached-sound}
 use Rattle.calls.specs.Calls as calls
-use Rattle.checks.proofs.Laws.{reached-sound}
+use Rattle.calls.proofs.Laws.{call-cases}
 use Rattle.zones.specs.declared.Zone.{Zone}
 use Rattle.zones.specs.Zone.{zoneBytes, zoneAt}
 use Rattle.types.specs.declared.Effect.{Effect}
@@ -34,24 +40,26 @@ use Rattle.recovery.specs.Fits.{recordFits}
 use Rattle.recovery.specs.Recovery.{nothingLost, recoveredRow}
 use Rattle.held.specs.Facts.{Ready}
 use Rattle.completion.specs.Completions.{Completion, failed, completionOf, completionBy, effectOf}
-use Rattle.completion.proofs.Laws.{effect-idle, effect-fixes}
+use Rattle.completion.proofs.Laws.{effect-idle, effect-none, effect-fixes}
 use Rattle.disk.specs.Disk.{DiskZone, Mishap, Choice, Performed, reported, moved, worsened, fallen, struck, perform, performedBy, allows, noZone}
 use Rattle.consistency.specs.FileHistory.{FileHistory}
-use Rattle.engine.specs.Engine.{Input, applied}
+use Rattle.engine.specs.Engine.{applied}
 use Rattle.engine.specs.Engine as engine
-use Rattle.consistency.specs.Possible.{HeldPossible, Possible, StaysPossible}
-use Rattle.consistency.proofs.Possible.{stays-possible}
-use Rattle.engine.proofs.Frame.{frame}
+use Rattle.engine.proofs.Laws.{call-by, completion-by}
+use Rattle.consistency.specs.Possible.{Possible}
+use Rattle.consistency.proofs.Kept.{possible-call, possible-ready, call-possible, completion-possible}
+use Rattle.consistency.proofs.Busy.{row-on, busy-known, busy-kind, kind-on, completion-on}
+use Rattle.consistency.proofs.Agrees.{agrees-held}
 use Rattle.disk.specs.Shows.{showsRecord}
 use Rattle.disk.specs.Facts.{ShowsRecord}
 use Rattle.disk.proofs.Shows.{record-told}
-use Rattle.consistency.specs.System.{System, holdsSeqFile, Event, call, mishap, doing, stray, placeOf, performIn, digested, settledIn, doneBy, strayBy, step, run, truthfulBy, truthful, allTruthful}
+use Rattle.consistency.specs.System.{System, holdsSeqFile, outstandingOn, outstandingBy, Event, call, mishap, doing, stray, placeOf, performIn, settledIn, doneBy, strayBy, step, run, truthfulBy, truthful, allTruthful}
 use Rattle.disk.proofs.SoundZone.{SoundZone, sound-struck, reported-shows}
 use Rattle.consistency.proofs.Mishaps.{keeps-mishap}
 use Rattle.held.proofs.Issued.{Within, Issued, issuable-tells}
 use Rattle.consistency.proofs.Doings.{completedRow, keeps-command}
-use Rattle.consistency.proofs.Bridge.{noRow, Listed, listed-became}
-use Rattle.consistency.proofs.Files.{Files, Own, own, alter, Inside, inside-moved, Covers, covers-set, covers-same, set-keeps, kinds-differ, kinds, kinds-set}
+use Rattle.consistency.proofs.Bridge.{noRow, Listed, set-became, listed-became}
+use Rattle.consistency.proofs.Files.{Files, Own, own, alter, files-held, Inside, inside-moved, Covers, covers-set, covers-same, set-keeps, kinds-differ, kinds, kinds-set}
 use Rattle.consistency.proofs.Fits.{report-fits, inside-fits}
 use Rattle.consistency.proofs.Effects.{holdOf, Completed, good-completed, failed-completed}
 
@@ -68,23 +76,77 @@ pub record Invariant (v : Volume) (ks : List FileKind) (w : System) : Type 0 whe
   pub covers : (n : ℕ) → n < w .state .mount .volume .conventional → Covers (w .state .mount .volume .block) (w .disk) (getD plain n noRow)
   pub possible : Possible (w .state)
 
--- A CALL leaves what the mount fixes and both tables.
-invariant-call : {v : Volume} {ks : List FileKind} {w : System} → Invariant v ks w → (kind n : ℕ) (x : Call) → Invariant v ks (step w (call kind n x))
-unfolding step StaysPossible
-invariant-call {v} {ks} {w} r kind n x =
-    let k = frame .calls (w .state) kind n x in
-    record {
-      same = k .volume ∙ r .same;
-      block = rw (k .volume) (r .block);
-      zones = r .zones;
-      rows = r .rows;
-      listed = rw (k .volume, k .seq) (r .listed);
-      files = rw (k .volume) (r .files);
-      plain = r .plain;
-      plainly = rw (k .volume, k .cnv) (r .plainly);
-      covers = rw (k .volume) (r .covers);
-      possible = stays-possible (w .state) (Input.call kind n x) (r .possible);
-    }
+-- the row of a file is listed
+listed-row : {v : Volume} {ks : List FileKind} {w : System} (r : Invariant v ks w) (k : FileKind) (n : ℕ) → n < filesOf k (w .state .mount .volume)
+    → rowAt (ofKind k (w .state .cnv) (w .state .seq)) n ≡ Good (getD (ofKind k (r .plain) (r .rows)) n noRow)
+listed-row r Conventional n h = r .plainly .row n h
+listed-row r Sequential n h = r .listed .row n h
+
+-- and passes 10 and 1
+row-reached : {v : Volume} {ks : List FileKind} {w : System} (r : Invariant v ks w) (k : FileKind) (n : ℕ) → n < filesOf k (w .state .mount .volume)
+    → Reached (w .state .mount .volume) (w .state .cnv) (w .state .seq) k n (getD (ofKind k (r .plain) (r .rows)) n noRow)
+row-reached {w = w} r k n h =
+    let (q, x) = possible-call (r .possible) k n h in
+    let g : Good q ≡ Good (getD (ofKind k (r .plain) (r .rows)) n noRow) = sym (x .row) ∙ listed-row r k n h in
+    let same : q ≡ getD (ofKind k (r .plain) (r .rows)) n noRow = cc in
+    subst (Reached (w .state .mount .volume) (w .state .cnv) (w .state .seq) k n) same x
+
+-- A CALL leaves what the mount fixes, and of the rows all but what is outstanding on one.
+module _ {v : Volume} {ks : List FileKind} {w : System} (r : Invariant v ks w) where
+  abbrev After : Effect → Type 0
+  After d = Invariant v ks (record { state = applied (w .state) d; disk = w .disk; histories = w .histories })
+
+  -- a row is stored on which something else is outstanding
+  held-stored : (k : FileKind) (n : ℕ) (o : Outstanding) (d : Effect) → n < filesOf k (w .state .mount .volume) → d .outcome .mount ≡ w .state .mount
+      → d .store ≡ store.Put k n (withOutstanding (getD (ofKind k (r .plain) (r .rows)) n noRow) o) → Possible (applied (w .state) d) → After d
+  held-stored Sequential n o d h same put possible =
+      let q = withOutstanding (getD (r .rows) n noRow) o in
+      let lent = reached-lent (w .state .mount .volume) (w .state .cnv) (w .state .seq) Sequential n (getD (r .rows) n noRow) (row-reached r Sequential n h) in
+      record {
+        same = rw same (r .same);
+        block = rw same (r .block);
+        zones = r .zones;
+        rows = set (r .rows) n q;
+        listed = rw (same, put) (listed-became (r .listed) h (set-became (w .state .seq) n q lent));
+        files = rw same (files-held (r .files) n o);
+        plain = r .plain;
+        plainly = rw (same, put) (r .plainly);
+        covers = rw same (r .covers);
+        possible = possible;
+      }
+  held-stored Conventional n o d h same put possible =
+      let q = withOutstanding (getD (r .plain) n noRow) o in
+      let lent = reached-lent (w .state .mount .volume) (w .state .cnv) (w .state .seq) Conventional n (getD (r .plain) n noRow) (row-reached r Conventional n h) in
+      record {
+        same = rw same (r .same);
+        block = rw same (r .block);
+        zones = r .zones;
+        rows = r .rows;
+        listed = rw (same, put) (r .listed);
+        files = rw same (r .files);
+        plain = set (r .plain) n q;
+        plainly = rw (same, put) (listed-became (r .plainly) h (set-became (w .state .cnv) n q lent));
+        covers = rw same (λ m l. set-keeps (λ x. Covers (w .state .mount .volume .block) (w .disk) x) noRow (r .plain) n m q (λ u. covers-same refl refl u) (r .covers m l));
+        possible = possible;
+      }
+
+  row-called : (k : FileKind) (n : ℕ) (q : Row) (a : Answer) → n < filesOf k (w .state .mount .volume) → q ≡ getD (ofKind k (r .plain) (r .rows)) n noRow
+      → Possible (applied (w .state) (calls.settled (w .state .mount) k n q a)) → After (calls.settled (w .state .mount) k n q a)
+  row-called k n q (Refused y) h e p = r
+  row-called k n q (Done count) h e p = r
+  row-called k n q (Issue c) h e p =
+      held-stored k n (Busy c) (calls.settled (w .state .mount) k n q (Issue c)) h refl (ap (λ (x : Row). store.Put k n (withOutstanding x (Busy c))) e) p
+
+  file-called : (k : FileKind) (n : ℕ) (x : Call) → After (calls.effectOf (w .state .mount) (w .state .cnv) (w .state .seq) k n x)
+  file-called k n x =
+      call-cases (w .state .mount) (w .state .cnv) (w .state .seq) k n x (λ d. Possible (applied (w .state) d) → After d)
+      (λ q u. row-called k n q (calls.onRow (w .state .mount) k q x) (u .number)
+      (let g : Good q ≡ Good (getD (ofKind k (r .plain) (r .rows)) n noRow) = sym (u .row) ∙ listed-row r k n (u .number) in cc))
+      (λ y f p. r) (call-possible (r .possible) k n x)
+
+  invariant-call : (kind n : ℕ) (x : Call) → Invariant v ks (step w (call kind n x))
+  unfolding step engine.step
+  invariant-call kind n x = call-by (w .state .mount) (w .state .cnv) (w .state .seq) After kind n x (λ e. file-called (kindFrom kind) n x) r
 
 -- A MISHAP.
 invariant-mishap : {v : Volume} {ks : List FileKind} {w : System} → Invariant v ks w → (i : ℕ) (e : Mishap) → Invariant v ks (step w (mishap i e))
@@ -149,28 +211,18 @@ failure-told given bytes e = rw (eq-eqb _ _ e)
 abbrev pub replied : Bool → Command → Row → Answer
 replied t c r = cond t (Done (c .length)) (Refused (refusal.Failed (r .size)))
 
-module _ {v : Volume} {ks : List FileKind} {w : System} (r : Invariant v ks w) (k : FileKind) (n : ℕ) (c : Command) (e : w .state .mount .outstanding ≡ Busy (holdOf k n c)) where
+module _ {v : Volume} {ks : List FileKind} {w : System} (r : Invariant v ks w) (k : FileKind) (n : ℕ) (c : Command) (e : outstandingOn (w .state) k n ≡ Busy c) where
   abbrev row : Row
   row = getD (ofKind k (r .plain) (r .rows)) n noRow
 
-  hold : HeldPossible (w .state) (holdOf k n c)
-  hold = r .possible .held (holdOf k n c) e
-
   pub known : n < filesOf k (w .state .mount .volume)
-  known = hold .ready .reached .number
-
-  listed-row : (k : FileKind) → n < filesOf k (w .state .mount .volume) → rowAt (ofKind k (w .state .cnv) (w .state .seq)) n ≡ Good (getD (ofKind k (r .plain) (r .rows)) n noRow)
-  listed-row Conventional h = r .plainly .row n h
-  listed-row Sequential h = r .listed .row n h
-
-  same-row : hold .row ≡ row
-  same-row = let p = hold .ready .reached .row in let q = listed-row k known in let g : Good (hold .row) ≡ Good row = sym p ∙ q in cc
+  known = busy-known (w .state) k n c e
 
   pub ready : Ready (w .state .mount) (w .state .cnv) (w .state .seq) (holdOf k n c) row
-  ready = subst (λ (x : Row). Ready (w .state .mount) (w .state .cnv) (w .state .seq) (holdOf k n c) x) same-row (hold .ready)
+  ready = possible-ready (r .possible) k n c row (row-reached r k n known) (sym (row-on (w .state) k n row known (listed-row r k n known)) ∙ e)
 
   pub issue : Issued (w .state .mount .volume .block) k row c
-  issue = issuable-tells (w .state .mount .readonly) (w .state .mount .volume .block) k row c (ready .issued)
+  issue = issuable-tells (w .state .mount .volume .block) k row c (ready .issued)
 
   pub lies : Within row (c .address)
   lies = issue .within (reached-sound (w .state .mount .volume) (w .state .cnv) (w .state .seq) k n row (ready .reached) .roomy)
@@ -206,16 +258,16 @@ module _ {v : Volume} {ks : List FileKind} {w : System} (r : Invariant v ks w) (
 
     module _ (given : Bool) (bytes : List ℕ) where
       abbrev pub new : Row
-      new = completedRow k (done .succeeded) (w .state .mount .volume .policy) c (zoneAt given bytes 0) row
+      new = cleared (completedRow k (done .succeeded) (w .state .mount .volume .policy) c (zoneAt given bytes 0) row)
 
       -- the completion is answered by the count or by 7, and leaves the row that the disk's doing asks for
       pub completed : (done .succeeded ≡ false → length bytes ≡ zoneBytes) → (done .succeeded ≡ false → recordFits (w .state .mount .volume .block) k row (zoneAt given bytes 0) ≡ true)
-          → Completed (w .state .mount) (w .state .cnv) (w .state .seq) k n new (replied (done .succeeded) c new) (effectOf (w .state .mount) (w .state .cnv) (w .state .seq) (completionBy (done .succeeded) given bytes))
+          → Completed (w .state .cnv) (w .state .seq) k n new (replied (done .succeeded) c new) (effectOf (w .state .mount) (w .state .cnv) (w .state .seq) k n (completionBy (done .succeeded) given bytes))
       completed long fits = by (done .succeeded) long fits
         where
           by : (t : Bool) → (t ≡ false → length bytes ≡ zoneBytes) → (t ≡ false → recordFits (w .state .mount .volume .block) k row (zoneAt given bytes 0) ≡ true)
-              → let x = completedRow k t (w .state .mount .volume .policy) c (zoneAt given bytes 0) row in
-              Completed (w .state .mount) (w .state .cnv) (w .state .seq) k n x (replied t c x) (effectOf (w .state .mount) (w .state .cnv) (w .state .seq) (completionBy t given bytes))
+              → let x = cleared (completedRow k t (w .state .mount .volume .policy) c (zoneAt given bytes 0) row) in
+              Completed (w .state .cnv) (w .state .seq) k n x (replied t c x) (effectOf (w .state .mount) (w .state .cnv) (w .state .seq) k n (completionBy t given bytes))
           by true long fits = good-completed (w .state .mount) (w .state .cnv) (w .state .seq) k n c row ready
           by false long fits = rw (failure-told given bytes (long refl)) (failed-completed (w .state .mount) (w .state .cnv) (w .state .seq) k n c row ready (zoneAt given bytes 0) (fits refl))
 
@@ -225,15 +277,15 @@ Told w c o given bytes = performIn w c o .succeeded ≡ false → ShowsRecord gi
 
 module _ {v : Volume} {ks : List FileKind} {w : System} (r : Invariant v ks w) (n : ℕ) (c : Command) (o : Choice) where
   -- the zone of a seq file's command
-  pub owns : w .state .mount .outstanding ≡ Busy (holdOf Sequential n c)
+  pub owns : outstandingOn (w .state) Sequential n ≡ Busy c
       → Own (w .state .mount .volume .block) (w .state .mount .volume .policy) 0 (w .disk) (w .histories) (r .rows) (w .state .mount .volume .sequential) n (placeOf w c)
   owns e = own (r .files) n (c .address) (known r Sequential n c e) (lies r Sequential n c e .low) (lies r Sequential n c e .high)
 
   -- that of a cnv file's, before and after
-  stands : w .state .mount .outstanding ≡ Busy (holdOf Conventional n c) → Inside (w .state .mount .volume .block) (getD (r .plain) n noRow) (getD (w .disk) (placeOf w c) noZone)
+  stands : outstandingOn (w .state) Conventional n ≡ Busy c → Inside (w .state .mount .volume .block) (getD (r .plain) n noRow) (getD (w .disk) (placeOf w c) noZone)
   stands e = r .covers n (known r Conventional n c e) .at (c .address) (lies r Conventional n c e .low) (lies r Conventional n c e .high)
 
-  pub stood : w .state .mount .outstanding ≡ Busy (holdOf Conventional n c) → Inside (w .state .mount .volume .block) (getD (r .plain) n noRow) (performIn w c o .zone)
+  pub stood : outstandingOn (w .state) Conventional n ≡ Busy c → Inside (w .state .mount .volume .block) (getD (r .plain) n noRow) (performIn w c o .zone)
   stood e = performed-moved (λ x. Inside (w .state .mount .volume .block) (getD (r .plain) n noRow) x) _ _ _ c o (λ to h. inside-moved (stands e) to h)
 
   module _ (given : Bool) (bytes : List ℕ) (told : Told w c o given bytes) where
@@ -241,76 +293,96 @@ module _ {v : Volume} {ks : List FileKind} {w : System} (r : Invariant v ks w) (
     answer = completionBy (performIn w c o .succeeded) given bytes
 
     -- a command of a seq file
-    module _ (e : w .state .mount .outstanding ≡ Busy (holdOf Sequential n c)) where
+    module _ (e : outstandingOn (w .state) Sequential n ≡ Busy c) where
       pub seq-completed : let x = new r Sequential n c e o given bytes in
-          Completed (w .state .mount) (w .state .cnv) (w .state .seq) Sequential n x (replied (performIn w c o .succeeded) c x) (effectOf (w .state .mount) (w .state .cnv) (w .state .seq) answer)
+          Completed (w .state .cnv) (w .state .seq) Sequential n x (replied (performIn w c o .succeeded) c x) (effectOf (w .state .mount) (w .state .cnv) (w .state .seq) Sequential n answer)
       seq-completed = completed r Sequential n c e o given bytes (λ f. told f .long) (λ f. report-fits (r .block) (owns e .agrees) c (issue r Sequential n c e) o (zoneAt given bytes 0) f (told f .shows))
 
-      invariant-seq : Invariant v ks (settledIn w c (performIn w c o) (digested w c o given bytes .state))
-      unfolding engine.step StaysPossible
-      invariant-seq = invariant-settled r Sequential n c e o (effectOf (w .state .mount) (w .state .cnv) (w .state .seq) answer) (set (r .rows) n (new r Sequential n c e o given bytes)) (r .plain) (effect-fixes (w .state .mount) (w .state .cnv) (w .state .seq) answer)
+      invariant-seq : Invariant v ks (settledIn w c (performIn w c o) (applied (w .state) (effectOf (w .state .mount) (w .state .cnv) (w .state .seq) Sequential n answer)))
+      invariant-seq = invariant-settled r Sequential n c e o (effectOf (w .state .mount) (w .state .cnv) (w .state .seq) Sequential n answer) (set (r .rows) n (new r Sequential n c e o given bytes)) (r .plain) (effect-fixes (w .state .mount) (w .state .cnv) (w .state .seq) Sequential n answer)
           (listed-became (r .listed) (known r Sequential n c e) (seq-completed .here))
-          (owns e .put _ _ _ (start-kept _ _ _ c o) (length-kept _ _ _ c o) (keeps-command (r .block) (owns e .agrees) c (issue r Sequential n c e) o (zoneAt given bytes 0) (λ f. told f .shows)))
+          (owns e .put _ _ _ (start-kept _ _ _ c o) (length-kept _ _ _ c o) (agrees-held Idle (keeps-command (r .block) (owns e .agrees) c (issue r Sequential n c e) o (zoneAt given bytes 0) (λ f. told f .shows))))
           (rw (seq-completed .other Conventional (w .state .cnv) (λ q. kinds-differ (sym q))) (r .plainly))
           (covers-after r Sequential n c e o)
-          (stays-possible (w .state) (Input.completion answer) (r .possible))
+          (completion-possible (r .possible) Sequential n answer)
 
     -- a command of a cnv file
-    module _ (e : w .state .mount .outstanding ≡ Busy (holdOf Conventional n c)) where
+    module _ (e : outstandingOn (w .state) Conventional n ≡ Busy c) where
       pub cnv-completed : let x = new r Conventional n c e o given bytes in
-          Completed (w .state .mount) (w .state .cnv) (w .state .seq) Conventional n x (replied (performIn w c o .succeeded) c x) (effectOf (w .state .mount) (w .state .cnv) (w .state .seq) answer)
+          Completed (w .state .cnv) (w .state .seq) Conventional n x (replied (performIn w c o .succeeded) c x) (effectOf (w .state .mount) (w .state .cnv) (w .state .seq) Conventional n answer)
       cnv-completed = completed r Conventional n c e o given bytes (λ f. told f .long) (λ f. inside-fits (stood e) (told f .shows))
 
-      invariant-cnv : Invariant v ks (settledIn w c (performIn w c o) (digested w c o given bytes .state))
-      unfolding engine.step StaysPossible
-      invariant-cnv = invariant-settled r Conventional n c e o (effectOf (w .state .mount) (w .state .cnv) (w .state .seq) answer) (r .rows) (set (r .plain) n (new r Conventional n c e o given bytes)) (effect-fixes (w .state .mount) (w .state .cnv) (w .state .seq) answer)
+      invariant-cnv : Invariant v ks (settledIn w c (performIn w c o) (applied (w .state) (effectOf (w .state .mount) (w .state .cnv) (w .state .seq) Conventional n answer)))
+      invariant-cnv = invariant-settled r Conventional n c e o (effectOf (w .state .mount) (w .state .cnv) (w .state .seq) Conventional n answer) (r .rows) (set (r .plain) n (new r Conventional n c e o given bytes)) (effect-fixes (w .state .mount) (w .state .cnv) (w .state .seq) Conventional n answer)
           (rw (cnv-completed .other Sequential (w .state .seq) kinds-differ) (r .listed))
           (alter (r .files) _ _ _ (start-kept _ _ _ c o) (length-kept _ _ _ c o) (file-kept _ _ _ c o) (λ s. stood e .sound) (λ x a. absurd (kinds-differ (sym (stands e .kind) ∙ a .kind))))
           (listed-became (r .plainly) (known r Conventional n c e) (cnv-completed .here))
           (λ m h. set-keeps (λ x. Covers (w .state .mount .volume .block) (set (w .disk) (placeOf w c) (performIn w c o .zone)) x) noRow (r .plain) n m (new r Conventional n c e o given bytes)
           (λ v. let q = plain-in-place (performIn w c o .succeeded) _ c _ _ in covers-same (q .0) (q .1) v) (covers-after r Conventional n c e o m h))
-          (stays-possible (w .state) (Input.completion answer) (r .possible))
+          (completion-possible (r .possible) Conventional n answer)
 
 -- WHATEVER THE DISK DOES with the command that is held, the zone is good input.
-pub performed-sound : {v : Volume} {ks : List FileKind} {w : System} → Invariant v ks w → (k : FileKind) (n : ℕ) (c : Command) (o : Choice) → w .state .mount .outstanding ≡ Busy (holdOf k n c)
+pub performed-sound : {v : Volume} {ks : List FileKind} {w : System} → Invariant v ks w → (k : FileKind) (n : ℕ) (c : Command) (o : Choice) → outstandingOn (w .state) k n ≡ Busy c
     → SoundZone (w .state .mount .volume .block) (performIn w c o .zone)
 performed-sound {w = w} r Conventional n c o e = stood r n c o e .sound
 performed-sound {w = w} r Sequential n c o e =
     keeps-command (r .block) (owns r n c o e .agrees) c (issue r Sequential n c e) o (reported (performIn w c o .zone)) (λ f. reported-shows (performIn w c o .zone)) .sound
 
 -- a doing that is done, or whose bytes show the zone
-pub truthful-told : (w : System) (h : Held) → w .state .mount .outstanding ≡ Busy h → (o : Choice) (given : Bool) (bytes : List ℕ) → truthful w (doing o given bytes) ≡ true → Told w (h .command) o given bytes
-truthful-told w h e o given bytes t f =
-    let d = performIn w (h .command) o in
-    let u : truthfulBy (Busy h) w o given bytes ≡ true = subst (λ (x : Outstanding). truthfulBy x w o given bytes ≡ true) e t in
+pub truthful-told : (w : System) (kind n : ℕ) (c : Command) → outstandingBy (w .state) kind n ≡ Busy c → (o : Choice) (given : Bool) (bytes : List ℕ)
+    → truthful w (doing kind n o given bytes) ≡ true → Told w c o given bytes
+truthful-told w kind n c e o given bytes t f =
+    let d = performIn w c o in
+    let u : truthfulBy (Busy c) w o given bytes ≡ true = subst (λ (x : Outstanding). truthfulBy x w o given bytes ≡ true) e t in
     record-told given bytes (d .zone) (subst (λ (s : Bool). s || showsRecord given bytes (d .zone) ≡ true) f u)
 
-invariant-doing : {v : Volume} {ks : List FileKind} {w : System} → Invariant v ks w → (o : Choice) (given : Bool) (bytes : List ℕ) → truthful w (doing o given bytes) ≡ true → Invariant v ks (step w (doing o given bytes))
-unfolding step
-invariant-doing {v} {ks} {w} r o given bytes t = by (w .state .mount .outstanding) refl
-  where
-    busy : (k : FileKind) (n : ℕ) (c : Command) → w .state .mount .outstanding ≡ Busy (holdOf k n c) → Told w c o given bytes → Invariant v ks (settledIn w c (performIn w c o) (digested w c o given bytes .state))
-    busy Sequential n c e told = invariant-seq r n c o given bytes told e
-    busy Conventional n c e told = invariant-cnv r n c o given bytes told e
+-- A DOING, of whichever file's command
+module _ {v : Volume} {ks : List FileKind} {w : System} (r : Invariant v ks w) (kind n : ℕ) (o : Choice) (given : Bool) (bytes : List ℕ) where
+  file-done : (k : FileKind) (c : Command) → outstandingOn (w .state) k n ≡ Busy c → Told w c o given bytes
+      → Invariant v ks (settledIn w c (performIn w c o) (applied (w .state) (effectOf (w .state .mount) (w .state .cnv) (w .state .seq) k n (completionBy (performIn w c o .succeeded) given bytes))))
+  file-done Sequential c e told = invariant-seq r n c o given bytes told e
+  file-done Conventional c e told = invariant-cnv r n c o given bytes told e
 
-    by : (x : Outstanding) → w .state .mount .outstanding ≡ x → Invariant v ks (doneBy x w o given bytes)
-    by Idle e = r
-    by (Busy h) e = busy (h .kind) (h .number) (h .command) e (truthful-told w h e o given bytes t)
+  invariant-doing : truthful w (doing kind n o given bytes) ≡ true → Invariant v ks (step w (doing kind n o given bytes))
+  unfolding step engine.step
+  invariant-doing t = by (outstandingBy (w .state) kind n) refl
+    where
+      by : (x : Outstanding) → outstandingBy (w .state) kind n ≡ x → Invariant v ks (doneBy x w kind n o given bytes)
+      by Idle e = r
+      by (Busy c) e =
+          let (is, on) = busy-kind (w .state) kind n c e in
+          rw (completion-on (w .state) kind n (completionBy (performIn w c o .succeeded) given bytes) is)
+          (file-done (kindFrom kind) c on (truthful-told w kind n c e o given bytes t))
+      by Unknown e = r
 
--- A STRAY COMPLETION.
-invariant-stray : {v : Volume} {ks : List FileKind} {w : System} → Invariant v ks w → (x : Completion) → Invariant v ks (step w (stray x))
-unfolding step engine.step
-invariant-stray {v} {ks} {w} r x = by (w .state .mount .outstanding) refl
-  where
-    by : (y : Outstanding) → w .state .mount .outstanding ≡ y → Invariant v ks (strayBy y w x)
-    by Idle e = rw (effect-idle (w .state .mount) (w .state .cnv) (w .state .seq) x e) r
-    by (Busy h) e = r
+-- A STRAY COMPLETION, of a file with nothing outstanding, or of none
+module _ {v : Volume} {ks : List FileKind} {w : System} (r : Invariant v ks w) where
+  file-stray : (k : FileKind) (n : ℕ) (x : Completion) → outstandingOn (w .state) k n ≡ Idle → After r (effectOf (w .state .mount) (w .state .cnv) (w .state .seq) k n x)
+  file-stray k n x e = by (lookupOf (w .state .mount .volume) (w .state .cnv) (w .state .seq) k n) refl
+    where
+      by : (y : Lookup) → lookupOf (w .state .mount .volume) (w .state .cnv) (w .state .seq) k n ≡ y → After r (effectOf (w .state .mount) (w .state .cnv) (w .state .seq) k n x)
+      by (lookup.Found y) f =
+          let known = lookup-some (w .state .mount .volume) (w .state .cnv) (w .state .seq) k n y f in
+          let row = getD (ofKind k (r .plain) (r .rows)) n noRow in
+          rw (effect-idle (w .state .mount) (w .state .cnv) (w .state .seq) k n row x (row-reached r k n known) (sym (row-on (w .state) k n row known (listed-row r k n known)) ∙ e)) r
+      by lookup.Nothing f = rw (effect-none (w .state .mount) (w .state .cnv) (w .state .seq) k n x (r .possible .counts) f) r
+
+  invariant-stray : (kind n : ℕ) (x : Completion) → Invariant v ks (step w (stray kind n x))
+  unfolding step engine.step
+  invariant-stray kind n x = by (outstandingBy (w .state) kind n) refl
+    where
+      by : (y : Outstanding) → outstandingBy (w .state) kind n ≡ y → Invariant v ks (strayBy y w kind n x)
+      by Idle e =
+          completion-by (w .state .mount) (w .state .cnv) (w .state .seq) (After r) kind n x
+          (λ is. file-stray (kindFrom kind) n x (sym (kind-on (w .state) kind n is) ∙ e)) r
+      by (Busy c) e = r
+      by Unknown e = r
 
 invariant-step : {v : Volume} {ks : List FileKind} {w : System} → Invariant v ks w → (e : Event) → truthful w e ≡ true → Invariant v ks (step w e)
 invariant-step r (call kind n x) t = invariant-call r kind n x
 invariant-step r (mishap i e) t = invariant-mishap r i e
-invariant-step r (doing o given bytes) t = invariant-doing r o given bytes t
-invariant-step r (stray x) t = invariant-stray r x
+invariant-step r (doing kind n o given bytes) t = invariant-doing r kind n o given bytes t
+invariant-step r (stray kind n x) t = invariant-stray r kind n x
 
 pub invariant-run : {v : Volume} {ks : List FileKind} {w : System} → Invariant v ks w → (es : List Event) → allTruthful w es ≡ true → Invariant v ks (run w es)
 unfolding run allTruthful

@@ -13,7 +13,7 @@ use Rattle.types.specs.declared.Answer.{Answer}
 use Rattle.types.specs.Codes.{flagCode, kindCode}
 use Rattle.types.specs.Numbers.{answerNumber, answerValues, mountNumber, mountValues}
 use Rattle.types.specs.Stated.{Case, is, AsStated}
-use Rattle.table.specs.Rows.{wordAt}
+use Rattle.table.specs.Rows.{rowWidth, wordAt}
 use Rattle.text.specs.Text.{ascii}
 use Rattle.superblock.specs.SuperBlock.{encodeSuper}
 use Rattle.zones.specs.declared.Zone.{Zone}
@@ -87,7 +87,7 @@ superblock aggregate = encodeSuper 0 (replicate 64 0) (uuid aggregate) (flagCode
 
 -- two rows of either kind are lent, with some words in them
 abbrev pub lent : List ℕ
-lent = replicate 10 7
+lent = replicate (2 * rowWidth) 7
 
 -- the text of an option
 abbrev pub optionText : ErrorPolicy → List ℕ
@@ -121,7 +121,7 @@ callOn o n x = numbered (step (mounted o) (call (kindCode Sequential) n x) .repl
 
 -- "write 8192 at 4096 fails" with this record
 abbrev pub failedBy : Mounting → Zone → Step
-failedBy o r = step (step (mounted o) (call (kindCode Sequential) 0 (Call.Write 4096 8192)) .state) (completion (completionOf true (encodeZone r)))
+failedBy o r = step (step (mounted o) (call (kindCode Sequential) 0 (Call.Write 4096 8192)) .state) (completion (kindCode Sequential) 0 (completionOf true (encodeZone r)))
 
 -- number and values of the answer, and then the row's size and access (0 none, 1 read, 2 write)
 abbrev pub failedWrite : Mounting → Zone → List ℕ

@@ -1,4 +1,4 @@
--- What demand 3 promises of a quiet sequential file's row when no command is outstanding: what a fresh mount would give, with three
+-- What demand 3 promises of a quiet sequential file's row when the file has no command outstanding: what a fresh mount would give, with three
 -- exceptions.
 use mathlib.Core.Bool.{Bool, true, false, not, cond, _&&_, _||_}
 use mathlib.Core.Path.{_≡_}

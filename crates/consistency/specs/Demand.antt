@@ -6,10 +6,10 @@ use mathlib.Core.Path.{_≡_}
 use Prim.Native.Nat.{ℕ, _<_}
 use lib.ListN.{length, getD}
 use Rattle.types.specs.declared.Row.{Row}
-use Rattle.types.specs.declared.Held.{Held}
 use Rattle.types.specs.declared.Command.{Command}
 use Rattle.types.specs.declared.Call.{Call}
 use Rattle.types.specs.declared.Outstanding.the-variants.{Idle, Busy}
+use Rattle.types.specs.declared.FileKind.the-variants.{Sequential}
 use Rattle.types.specs.declared.ErrorPolicy.{ErrorPolicy}
 use Rattle.types.specs.Codes.{isKind, kindFrom}
 use Rattle.types.specs.Numbers.{mountNumber, answerNumber}
@@ -23,7 +23,7 @@ use Rattle.consistency.specs.Possible.{IsFile, impossible, noFile}
 use Rattle.disk.specs.Disk.{DiskZone, noZone, Choice, diskRecord, diskReport}
 use Rattle.disk.specs.Shows.{showsRecord, shows}
 use Rattle.consistency.specs.FileHistory.{FileHistory}
-use Rattle.consistency.specs.System.{System, Event, doing, run, truthful, allTruthful, mounted, zoneOf, historyOf, performIn, digested}
+use Rattle.consistency.specs.System.{System, outstandingOn, outstandingBy, Event, doing, run, truthful, allTruthful, mounted, zoneOf, historyOf, performIn, digested}
 use Rattle.consistency.specs.Claim.{AsPromised}
 
 -- ---- a list for demand 3
@@ -77,13 +77,13 @@ pub record Compares (p : ErrorPolicy) (h : FileHistory) (z : DiskZone) (fresh no
 pub record Consistent (p : ErrorPolicy) (s : System) (o : Mounting) : Type 0 where
   pub answer : mountNumber (o .answer) ≡ 0
   pub files : o .mount .volume .sequential ≡ s .state .mount .volume .sequential
-  pub rows : (n : ℕ) → n < s .state .mount .volume .sequential → historyOf s n .quiet ≡ true → Compares p (historyOf s n) (zoneOf s n) (o .seq) (s .state .seq) n
+  pub rows : (n : ℕ) → n < s .state .mount .volume .sequential → outstandingOn (s .state) Sequential n ≡ Idle → historyOf s n .quiet ≡ true
+      → Compares p (historyOf s n) (zoneOf s n) (o .seq) (s .state .seq) n
 
--- DEMAND 3: "a single claim about the whole list". With nothing outstanding, every fresh mount is answered 0, and every quiet seq file's
--- row compares with its row there as promised.
+-- DEMAND 3: "a single claim about the whole list". Every fresh mount is answered 0, and, 02, "whenever this file has nothing outstanding", every
+-- quiet seq file's row compares with its row there as promised, whatever the other files have outstanding.
 unfoldable pub Demand3 : Type 0
-Demand3 =
-    (h : History) → after h .state .mount .outstanding ≡ Idle → (f : Fresh h) → Consistent (policyOf (optionsOf (h .options))) (after h) (freshMount h f)
+Demand3 = (h : History) (f : Fresh h) → Consistent (policyOf (optionsOf (h .options))) (after h) (freshMount h f)
 
 -- ---- beside it: nothing in it is empty
 
@@ -109,23 +109,23 @@ pub record Recorded (z : DiskZone) : Type 0 where
 -- of every zone, and whatever the disk does with an outstanding command
 pub record Recordable (s : System) : Type 0 where
   pub zones : (i : ℕ) → i < length (s .disk) → Recorded (getD (s .disk) i noZone)
-  pub doings : (h : Held) → s .state .mount .outstanding ≡ Busy h → (o : Choice) → Recorded (performIn s (h .command) o .zone)
+  pub doings : (kind n : ℕ) (c : Command) → outstandingBy (s .state) kind n ≡ Busy c → (o : Choice) → Recorded (performIn s c o .zone)
 
 unfoldable pub AlwaysRecorded : Type 0
 AlwaysRecorded = (h : History) → Recordable (after h)
 
 -- ---- beside it: what is answered on the way
 
--- the completion is answered 0 if the command was done and 7 if it failed, never 8, 9 or 10, and the command is no longer held
-pub record Digested (s : System) (c : Command) (o : Choice) (given : Bool) (bytes : List ℕ) : Type 0 where
-  pub number : answerNumber (digested s c o given bytes .reply) ≡ cond (performIn s c o .succeeded) 0 7
-  pub idle : digested s c o given bytes .state .mount .outstanding ≡ Idle
+-- the completion is answered 0 if the command was done and 7 if it failed, never 1, 8, 9 or 10, and its file then has nothing outstanding
+pub record Digested (s : System) (kind n : ℕ) (c : Command) (o : Choice) (given : Bool) (bytes : List ℕ) : Type 0 where
+  pub number : answerNumber (digested s kind n c o given bytes .reply) ≡ cond (performIn s c o .succeeded) 0 7
+  pub idle : outstandingBy (digested s kind n c o given bytes .state) kind n ≡ Idle
 
 -- whatever the disk does with an outstanding command, and truthfully reports of it
 unfoldable pub AlwaysDigested : Type 0
 AlwaysDigested =
-    (h : History) (c : Held) → after h .state .mount .outstanding ≡ Busy c
-    → (o : Choice) (given : Bool) (bytes : List ℕ) → truthful (after h) (doing o given bytes) ≡ true → Digested (after h) (c .command) o given bytes
+    (h : History) (kind n : ℕ) (c : Command) → outstandingBy (after h .state) kind n ≡ Busy c
+    → (o : Choice) (given : Bool) (bytes : List ℕ) → truthful (after h) (doing kind n o given bytes) ≡ true → Digested (after h) kind n c o given bytes
 
 -- a call on the file of a kind's number and a number is never answered 10, and never 1 where the file exists
 pub record Answered (s : System) (kind n : ℕ) (x : Call) : Type 0 where

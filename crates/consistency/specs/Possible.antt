@@ -1,5 +1,5 @@
 -- Number 10, "mount value or tables impossible": what is possible, and that it stays possible. So from a mount answered 0 nothing is ever
--- answered 10, and no call on a file is answered 1: whatever is called, and whatever the disk tells, the truth or not.
+-- answered 10, and nothing about a file that there is is answered 1: whatever is called, and whatever the disk tells, the truth or not.
 use Prim.Native.Nat.{ℕ, _<_}
 use mathlib.Core.Path.{_≡_}
 use mathlib.Core.Logic.{_≢_}
@@ -7,12 +7,11 @@ use mathlib.Core.Bool.{true}
 use mathlib.Core.List.{List, [], _∷_}
 use lib.ListN.{length}
 use Rattle.types.specs.declared.Row.{Row}
-use Rattle.types.specs.declared.Held.{Held}
 use Rattle.types.specs.declared.FileKind.{FileKind}
-use Rattle.types.specs.declared.Call.{Call}
 use Rattle.types.specs.declared.Answer.{Answer}
 use Rattle.types.specs.declared.Refusal.the-variants as refusal
-use Rattle.types.specs.declared.Outstanding.the-variants.{Busy}
+use Rattle.types.specs.declared.Outstanding.{Outstanding}
+use Rattle.types.specs.declared.Outstanding.the-variants.{Idle, Busy, Unknown}
 use Rattle.types.specs.Codes.{isKind, kindFrom}
 use Rattle.types.specs.Kinds.{ofKind, filesOf}
 use Rattle.types.specs.Numbers.{refusalNumber, answerNumber, mountNumber}
@@ -20,8 +19,9 @@ use Rattle.table.specs.declared.Slot.the-variants.{Good}
 use Rattle.table.specs.Rows.{rowAt}
 use Rattle.mount.specs.Mount.{mountOutcome}
 use Rattle.checks.specs.Checks.{countsFit, soundRow}
-use Rattle.held.specs.Facts.{Ready}
-use Rattle.engine.specs.Engine.{State, mounted, Input, call, step, run}
+use Rattle.held.specs.Held.{issuable}
+use Rattle.engine.specs.Engine.{State, mounted, Input, step, run}
+use Rattle.engine.specs.Frame.{kindIn, numberIn}
 
 -- ---- "Number 10", the other way round
 
@@ -29,24 +29,25 @@ use Rattle.engine.specs.Engine.{State, mounted, Input, call, step, run}
 abbrev pub IsFile : State → FileKind → ℕ → Type 0
 IsFile s k n = n < filesOf k (s .mount .volume)
 
--- its row is one, and breaks no rule
+-- nothing is held, or some call on its file, "with row and mount as they are but nothing held, would issue" the held command, the read-only mark
+-- aside (02)
+abbrev pub HeldPossible : ℕ → FileKind → Row → Outstanding → Type 0
+HeldPossible block k r Idle = Unit
+HeldPossible block k r (Busy c) = issuable block k r c ≡ true
+HeldPossible block k r Unknown = ⊥
+
+-- its row is one, breaks no rule, and holds nothing that it can't
 pub record RowPossible (s : State) (k : FileKind) (n : ℕ) : Type 0 where
   pub row : Row
   pub reads : rowAt (ofKind k (s .cnv) (s .seq)) n ≡ Good row
   pub sound : soundRow (s .mount .volume .block) k row ≡ true
-
--- some call on its file, "with row and mount as they are but nothing held, would issue" the held command
-pub record HeldPossible (s : State) (h : Held) : Type 0 where
-  pub row : Row
-  pub ready : Ready (s .mount) (s .cnv) (s .seq) h row
+  pub held : HeldPossible (s .mount .volume .block) k row (row .outstanding)
 
 pub record Possible (s : State) : Type 0 where
   -- no "more files of either kind than rows lent or than 1,022", no "wrong block"
   pub counts : countsFit (s .mount .volume) (length (s .cnv)) (length (s .seq)) ≡ true
-  -- no "row that breaks these", of whatever file
+  -- no "row that breaks these", and no "held command that no call on its file .. would issue", the mark aside, of whatever file
   pub rows : (k : FileKind) (n : ℕ) → IsFile s k n → RowPossible s k n
-  -- no "held command that no call on its file .. would issue"
-  pub held : (h : Held) → s .mount .outstanding ≡ Busy h → HeldPossible s h
 
 -- ---- of one step
 
@@ -72,11 +73,13 @@ StaysPossible = (s : State) (x : Input) → Possible s → Possible (step s x .s
 unfoldable pub NeverImpossible : Type 0
 NeverImpossible = (s : State) (x : Input) → Possible s → answerNumber (step s x .reply) ≢ impossible
 
--- and no call on a file that there is is answered 1
+-- the input names a file of those that there are
+abbrev pub NamesFile : State → Input → Type 0
+NamesFile s x = (isKind (kindIn x) ≡ true) × IsFile s (kindFrom (kindIn x)) (numberIn x)
+
+-- and no call or completion of a file that there is is answered 1
 unfoldable pub FilesAreFound : Type 0
-FilesAreFound =
-    (s : State) (kind n : ℕ) (x : Call) → Possible s → isKind kind ≡ true → IsFile s (kindFrom kind) n
-    → answerNumber (step s (call kind n x) .reply) ≢ noFile
+FilesAreFound = (s : State) (x : Input) → Possible s → NamesFile s x → answerNumber (step s x .reply) ≢ noFile
 
 -- ---- of a run, from a mount answered 0
 
@@ -91,9 +94,9 @@ RunNeverImpossible =
     (block : ℕ) (superblock options report cnv seq : List ℕ) → let o = mountOutcome block superblock options report cnv seq in
     mountNumber (o .answer) ≡ 0 → (inputs : List Input) → NoneIs impossible (run (mounted o) inputs .replies)
 
--- and a call on a file of the mount is not answered 1 after it
+-- and neither a call nor a completion of a file of the mount is answered 1 after it
 unfoldable pub RunFindsFiles : Type 0
 RunFindsFiles =
     (block : ℕ) (superblock options report cnv seq : List ℕ) → let o = mountOutcome block superblock options report cnv seq in
-    mountNumber (o .answer) ≡ 0 → (inputs : List Input) (kind n : ℕ) (x : Call) → isKind kind ≡ true
-    → IsFile (mounted o) (kindFrom kind) n → answerNumber (step (run (mounted o) inputs .state) (call kind n x) .reply) ≢ noFile
+    mountNumber (o .answer) ≡ 0 → (inputs : List Input) (x : Input) → NamesFile (mounted o) x
+    → answerNumber (step (run (mounted o) inputs .state) x .reply) ≢ noFile

@@ -1,5 +1,5 @@
 -- Small runs, from mounts like that of the starred cases, which show that the disk isn't too tame: in them every command is done and fails,
--- a write lands in part, zones fall and worsen, alone and with a failure, and each exception of demand 3 comes about.
+-- a write lands in part, zones fall and worsen, alone and with a failure, several files are busy at once, and each exception of demand 3 comes about.
 use mathlib.Core.Bool.{Bool, true, false}
 use mathlib.Core.List.{List, [], _∷_, _++_}
 use Prim.Native.Nat.{ℕ, _*_}
@@ -12,10 +12,11 @@ use Rattle.types.specs.declared.ErrorPolicy.{ErrorPolicy}
 use Rattle.types.specs.declared.ErrorPolicy.the-variants.{RemountRo, ZoneRo, ZoneOffline, Repair}
 use Rattle.types.specs.declared.Call.{Call}
 use Rattle.types.specs.declared.Outstanding.{Outstanding}
-use Rattle.types.specs.declared.Outstanding.the-variants.{Idle, Busy}
+use Rattle.types.specs.declared.Outstanding.the-variants.{Idle, Busy, Unknown}
 use Rattle.types.specs.Codes.{flagCode, kindCode, conditionCode, accessCode}
 use Rattle.types.specs.Numbers.{answerNumber}
 use Rattle.types.specs.Stated.{Case, is, AsStated}
+use Rattle.table.specs.Rows.{wordAt}
 use Rattle.zones.specs.declared.Zone.{Zone}
 use Rattle.zones.specs.Zone.{encodeZone}
 use Rattle.files.specs.Files.{seqRow}
@@ -24,7 +25,7 @@ use Rattle.completion.specs.Completions.{Completion}
 use Rattle.engine.specs.Engine.{Input}
 use Rattle.engine.specs.Engine as engine
 use Rattle.disk.specs.Disk.{DiskZone, Harm, none, toReadOnly, toOffline, Mishap, Choice, reported}
-use Rattle.consistency.specs.System.{System, Event, call, mishap, doing, stray, digested, step, run, allTruthful, mounted, zoneOf, historyOf}
+use Rattle.consistency.specs.System.{System, outstandingBy, Event, call, mishap, doing, stray, digested, step, run, allTruthful, mounted, zoneOf, historyOf}
 use Rattle.consistency.specs.Demand.{Start}
 use Rattle.consistency.specs.Cases.{Setting, paper, aggregated, block512, zone4ReadOnly, zone4Full, blockIn, aggregates, zone, report, superblock, lent, optionText, mountUnder, sizeIn, accessIn}
 
@@ -66,8 +67,14 @@ cnv0 x = call (kindCode Conventional) 0 x
 abbrev pub write : Event
 write = seq0 (Call.Write 4096 8192)
 
+abbrev pub write1 : Event
+write1 = seq1 (Call.Write 0 4096)
+
 abbrev pub read : Event
 read = seq0 (Call.Read 0 4096)
+
+abbrev pub read1 : Event
+read1 = seq1 (Call.Read 0 4096)
 
 abbrev pub reset : Event
 reset = seq0 (Call.Truncate 0)
@@ -85,21 +92,48 @@ falls blocks = record { blocks = blocks; harm = none }
 abbrev pub worsens : Harm → Mishap
 worsens harm = record { blocks = 0; harm = harm }
 
--- the disk does the command if it can, and else reports this record
-abbrev pub tries : Zone → Event
-tries r = doing (record { fails = false; lands = 0; mishap = falls 0 }) true (encodeZone r)
+-- the disk does the command of a file if it can, and else reports this record
+abbrev pub triesOf : (kind number : ℕ) → Zone → Event
+triesOf kind n r = doing kind n (record { fails = false; lands = 0; mishap = falls 0 }) true (encodeZone r)
 
 -- it does it
-abbrev pub done : Event
-done = doing (record { fails = false; lands = 0; mishap = falls 0 }) false []
+abbrev pub doneOf : (kind number : ℕ) → Event
+doneOf kind n = doing kind n (record { fails = false; lands = 0; mishap = falls 0 }) false []
 
 -- it fails after so many blocks, with a mishap
 abbrev pub failing : ℕ → Mishap → Choice
 failing lands e = record { fails = true; lands = lands; mishap = e }
 
 -- and reports this record
+abbrev pub failsOf : (kind number : ℕ) → ℕ → Mishap → Zone → Event
+failsOf kind n lands e r = doing kind n (failing lands e) true (encodeZone r)
+
+-- of seq/0
+abbrev pub tries : Zone → Event
+tries r = triesOf (kindCode Sequential) 0 r
+
+abbrev pub done : Event
+done = doneOf (kindCode Sequential) 0
+
 abbrev pub fails : ℕ → Mishap → Zone → Event
-fails lands e r = doing (failing lands e) true (encodeZone r)
+fails lands e r = failsOf (kindCode Sequential) 0 lands e r
+
+-- of seq/1
+abbrev pub tries1 : Zone → Event
+tries1 r = triesOf (kindCode Sequential) 1 r
+
+abbrev pub done1 : Event
+done1 = doneOf (kindCode Sequential) 1
+
+abbrev pub fails1 : ℕ → Mishap → Zone → Event
+fails1 lands e r = failsOf (kindCode Sequential) 1 lands e r
+
+-- of cnv/0
+abbrev pub doneCnv : Event
+doneCnv = doneOf (kindCode Conventional) 0
+
+abbrev pub failsCnv : ℕ → Mishap → Zone → Event
+failsCnv lands e r = failsOf (kindCode Conventional) 0 lands e r
 
 -- a record of zone 3, and one of zone 4: type, condition and pointer
 abbrev pub zone3 : ℕ → ℕ → ℕ → Zone
@@ -111,23 +145,29 @@ zone4 kind condition pointer = zone 4 kind condition 393216 pointer
 -- ---- what is seen of a run
 
 -- the numbers that are answered on the way
-abbrev pub doingReply : Outstanding → System → Choice → Bool → List ℕ → List ℕ
-doingReply Idle s o given bytes = []
-doingReply (Busy h) s o given bytes = answerNumber (digested s (h .command) o given bytes .reply) ∷ []
+abbrev pub doingReply : Outstanding → System → (kind number : ℕ) → Choice → Bool → List ℕ → List ℕ
+doingReply Idle s kind n o given bytes = []
+doingReply (Busy c) s kind n o given bytes = answerNumber (digested s kind n c o given bytes .reply) ∷ []
+doingReply Unknown s kind n o given bytes = []
 
-abbrev pub strayReply : Outstanding → System → Completion → List ℕ
-strayReply Idle s x = answerNumber (engine.step (s .state) (Input.completion x) .reply) ∷ []
-strayReply (Busy h) s x = []
+abbrev pub strayReply : Outstanding → System → (kind number : ℕ) → Completion → List ℕ
+strayReply Idle s kind n x = answerNumber (engine.step (s .state) (Input.completion kind n x) .reply) ∷ []
+strayReply (Busy c) s kind n x = []
+strayReply Unknown s kind n x = []
 
 abbrev pub replyTo : System → Event → List ℕ
 replyTo s (call kind n x) = answerNumber (engine.step (s .state) (Input.call kind n x) .reply) ∷ []
 replyTo s (mishap i e) = []
-replyTo s (doing o given bytes) = doingReply (s .state .mount .outstanding) s o given bytes
-replyTo s (stray x) = strayReply (s .state .mount .outstanding) s x
+replyTo s (doing kind n o given bytes) = doingReply (outstandingBy (s .state) kind n) s kind n o given bytes
+replyTo s (stray kind n x) = strayReply (outstandingBy (s .state) kind n) s kind n x
 
 unfoldable pub replies : System → List Event → List ℕ
 replies s [] = []
 replies s (e ∷ es) = replyTo s e ++ replies (step s e) es
+
+-- what a row has outstanding: 0 for nothing, else 1 + the command's code
+abbrev pub heldIn : List ℕ → ℕ → ℕ
+heldIn table row = wordAt table row 5
 
 -- of seq/n: size and access of its row, those that a fresh mount gives its zone, whether it is quiet, its last size; and the read-only mark
 abbrev pub seqSeen : ℕ → System → List ℕ
@@ -170,7 +210,7 @@ module _ (under : Setting → ErrorPolicy → Mounting) where
       ∷ on0 Repair (write ∷ fails 1 (falls 0) (zone3 3 4 1572880) ∷ []) (0 ∷ 7 ∷ []) (8192 ∷ 2 ∷ 8192 ∷ 2 ∷ 1 ∷ 8192 ∷ 0 ∷ [])
       ∷ on0 Repair (write ∷ fails 2 (falls 0) (zone3 3 1 1572888) ∷ []) (0 ∷ 7 ∷ []) (12288 ∷ 2 ∷ 12288 ∷ 2 ∷ 1 ∷ 12288 ∷ 0 ∷ [])
       -- bytes that are ignored may be anything
-      ∷ on0 Repair (write ∷ doing (failing 1 (falls 0)) true (set (encodeZone (zone3 2 2 1572880)) 63 9) ∷ []) (0 ∷ 7 ∷ []) (8192 ∷ 2 ∷ 8192 ∷ 2 ∷ 1 ∷ 8192 ∷ 0 ∷ [])
+      ∷ on0 Repair (write ∷ doing (kindCode Sequential) 0 (failing 1 (falls 0)) true (set (encodeZone (zone3 2 2 1572880)) 63 9) ∷ []) (0 ∷ 7 ∷ []) (8192 ∷ 2 ∷ 8192 ∷ 2 ∷ 1 ∷ 8192 ∷ 0 ∷ [])
       -- a reset, a finish and a flush, each done and failed
       ∷ on0 Repair (reset ∷ done ∷ []) (0 ∷ 0 ∷ []) (0 ∷ 2 ∷ 0 ∷ 2 ∷ 1 ∷ 0 ∷ 0 ∷ [])
       ∷ on0 Repair (reset ∷ fails 0 (falls 0) (zone3 2 2 1572872) ∷ []) (0 ∷ 7 ∷ []) (4096 ∷ 2 ∷ 4096 ∷ 2 ∷ 1 ∷ 4096 ∷ 0 ∷ [])
@@ -180,10 +220,10 @@ module _ (under : Setting → ErrorPolicy → Mounting) where
       ∷ on0 Repair (flush ∷ fails 0 (falls 0) (zone3 2 2 1572872) ∷ []) (0 ∷ 7 ∷ []) (4096 ∷ 2 ∷ 4096 ∷ 2 ∷ 1 ∷ 4096 ∷ 0 ∷ [])
       -- a failed read with nothing lost recovers nothing, also under zone-ro
       ∷ on0 ZoneRo (read ∷ fails 0 (falls 0) (zone3 2 2 1572872) ∷ []) (0 ∷ 7 ∷ []) (4096 ∷ 2 ∷ 4096 ∷ 2 ∷ 1 ∷ 4096 ∷ 0 ∷ [])
-      -- a completion with nothing outstanding
-      ∷ on0 Repair (stray Completion.good ∷ []) (8 ∷ []) (4096 ∷ 2 ∷ 4096 ∷ 2 ∷ 1 ∷ 4096 ∷ 0 ∷ [])
-      -- and one while a command is outstanding is no entry: the disk answers that command
-      ∷ on0 Repair (write ∷ stray Completion.good ∷ []) (0 ∷ []) (4096 ∷ 2 ∷ 4096 ∷ 2 ∷ 1 ∷ 4096 ∷ 0 ∷ [])
+      -- a completion with nothing outstanding, and completions of no file
+      ∷ on0 Repair (stray 1 0 Completion.good ∷ stray 1 2 Completion.good ∷ stray 2 0 Completion.malformed ∷ []) (8 ∷ 1 ∷ 1 ∷ []) (4096 ∷ 2 ∷ 4096 ∷ 2 ∷ 1 ∷ 4096 ∷ 0 ∷ [])
+      -- and one while a command is outstanding on its file is no entry: the disk answers that command
+      ∷ on0 Repair (write ∷ stray 1 0 Completion.good ∷ []) (0 ∷ []) (4096 ∷ 2 ∷ 4096 ∷ 2 ∷ 1 ∷ 4096 ∷ 0 ∷ [])
       -- a record that says a block landed which didn't is not truthful
       ∷ is (seenOf (seqSeen 0) (startIn paper Repair) (write ∷ fails 0 (falls 0) (zone3 2 2 1572880) ∷ [])) (0 ∷ 0 ∷ 7 ∷ 8192 ∷ 2 ∷ 4096 ∷ 2 ∷ 1 ∷ 4096 ∷ 0 ∷ [])
       -- a kind that there isn't
@@ -243,39 +283,69 @@ module _ (under : Setting → ErrorPolicy → Mounting) where
       on1 Repair [] [] (201326592 ∷ 2 ∷ 201326592 ∷ 2 ∷ 1 ∷ 201326592 ∷ 0 ∷ [])
       -- ".. and in a completion's record", whatever its pointer is: where the last block landed, or the file had the size already
       ∷ on0 Repair (seq0 (Call.Write 4096 201322496) ∷ fails 49151 (falls 0) (zone3 2 14 0) ∷ []) (0 ∷ 7 ∷ []) (201326592 ∷ 2 ∷ 201326592 ∷ 2 ∷ 1 ∷ 201326592 ∷ 0 ∷ [])
-      ∷ on1 ZoneRo (seq1 Call.Flush ∷ fails 0 (falls 0) (zone4 3 14 18446744073709551615) ∷ []) (0 ∷ 7 ∷ []) (201326592 ∷ 1 ∷ 201326592 ∷ 2 ∷ 1 ∷ 201326592 ∷ 0 ∷ [])
+      ∷ on1 ZoneRo (seq1 Call.Flush ∷ fails1 0 (falls 0) (zone4 3 14 18446744073709551615) ∷ []) (0 ∷ 7 ∷ []) (201326592 ∷ 1 ∷ 201326592 ∷ 2 ∷ 1 ∷ 201326592 ∷ 0 ∷ [])
       -- ".. also in a failed read's test": nothing is lost, and nothing recovered
-      ∷ on1 ZoneRo (seq1 (Call.Read 0 4096) ∷ fails 0 (falls 0) (zone4 2 14 0) ∷ []) (0 ∷ 7 ∷ []) (201326592 ∷ 2 ∷ 201326592 ∷ 2 ∷ 1 ∷ 201326592 ∷ 0 ∷ [])
+      ∷ on1 ZoneRo (seq1 (Call.Read 0 4096) ∷ fails1 0 (falls 0) (zone4 2 14 0) ∷ []) (0 ∷ 7 ∷ []) (201326592 ∷ 2 ∷ 201326592 ∷ 2 ∷ 1 ∷ 201326592 ∷ 0 ∷ [])
       -- "a full zone's pointer stands at start+capacity, and a mishap moves it from there"
       ∷ on1 Repair (mishap 4 (falls 1) ∷ []) [] (201326592 ∷ 2 ∷ 201322496 ∷ 2 ∷ 0 ∷ 201326592 ∷ 0 ∷ [])
-      ∷ on1 Repair (mishap 4 (falls 1) ∷ seq1 Call.Flush ∷ tries (zone4 2 2 2490360) ∷ []) (0 ∷ 7 ∷ []) (201322496 ∷ 2 ∷ 201322496 ∷ 2 ∷ 1 ∷ 201322496 ∷ 0 ∷ [])
+      ∷ on1 Repair (mishap 4 (falls 1) ∷ seq1 Call.Flush ∷ tries1 (zone4 2 2 2490360) ∷ []) (0 ∷ 7 ∷ []) (201322496 ∷ 2 ∷ 201322496 ∷ 2 ∷ 1 ∷ 201322496 ∷ 0 ∷ [])
       -- "any pointer while full": from then on it is full no more, and a record that says it is isn't truthful
-      ∷ is (seenOf (seqSeen 1) (startIn zone4Full Repair) (mishap 4 (falls 1) ∷ seq1 Call.Flush ∷ tries (zone4 2 14 2490360) ∷ []))
+      ∷ is (seenOf (seqSeen 1) (startIn zone4Full Repair) (mishap 4 (falls 1) ∷ seq1 Call.Flush ∷ tries1 (zone4 2 14 2490360) ∷ []))
       (0 ∷ 0 ∷ 7 ∷ 201326592 ∷ 2 ∷ 201322496 ∷ 2 ∷ 1 ∷ 201322496 ∷ 0 ∷ [])
       -- and once reset it is written like any other
-      ∷ on1 Repair (seq1 (Call.Truncate 0) ∷ done ∷ seq1 (Call.Write 0 4096) ∷ done ∷ []) (0 ∷ 0 ∷ 0 ∷ 0 ∷ []) (4096 ∷ 2 ∷ 4096 ∷ 2 ∷ 1 ∷ 4096 ∷ 0 ∷ [])
+      ∷ on1 Repair (seq1 (Call.Truncate 0) ∷ done1 ∷ seq1 (Call.Write 0 4096) ∷ done1 ∷ []) (0 ∷ 0 ∷ 0 ∷ 0 ∷ []) (4096 ∷ 2 ∷ 4096 ∷ 2 ∷ 1 ∷ 4096 ∷ 0 ∷ [])
       ∷ []
 
   -- other files, and other mounts
   unfoldable pub otherRuns : List Case
   otherRuns =
       -- seq/1
-      is (seenOf (seqSeen 1) (startIn paper Repair) (call 1 1 (Call.Write 0 4096) ∷ done ∷ [])) (truly (0 ∷ 0 ∷ []) (4096 ∷ 2 ∷ 4096 ∷ 2 ∷ 1 ∷ 4096 ∷ 0 ∷ []))
+      is (seenOf (seqSeen 1) (startIn paper Repair) (call 1 1 (Call.Write 0 4096) ∷ done1 ∷ [])) (truly (0 ∷ 0 ∷ []) (4096 ∷ 2 ∷ 4096 ∷ 2 ∷ 1 ∷ 4096 ∷ 0 ∷ []))
       -- one whose zone was read-only at mount can't be read, and isn't among the exceptions
       ∷ is (seenOf (seqSeen 1) (startIn zone4ReadOnly Repair) (call 1 1 (Call.Read 0 4096) ∷ [])) (truly (4 ∷ []) (0 ∷ 0 ∷ 0 ∷ 0 ∷ 1 ∷ 0 ∷ 0 ∷ []))
       -- with block 512: a write of one block, and a fall of one
       ∷ is (seenOf (seqSeen 0) (startIn block512 Repair) (seq0 (Call.Write 4096 512) ∷ done ∷ [])) (truly (0 ∷ 0 ∷ []) (4608 ∷ 2 ∷ 4608 ∷ 2 ∷ 1 ∷ 4608 ∷ 0 ∷ []))
       ∷ is (seenOf (seqSeen 0) (startIn block512 Repair) (mishap 3 (falls 1) ∷ [])) (truly [] (4096 ∷ 2 ∷ 3584 ∷ 2 ∷ 0 ∷ 4096 ∷ 0 ∷ []))
       -- a conventional file takes a write anywhere, and its size never moves; under remount-ro its failure marks the mount too
-      ∷ is (seenOf cnvSeen (startIn paper RemountRo) (cnv0 (Call.Write 8192 100) ∷ done ∷ [])) (truly (0 ∷ 0 ∷ []) (268435456 ∷ 2 ∷ 0 ∷ 0 ∷ 0 ∷ 0 ∷ 0 ∷ 0 ∷ []))
-      ∷ is (seenOf cnvSeen (startIn paper RemountRo) (cnv0 (Call.Write 8192 100) ∷ fails 0 (falls 0) (zone 1 1 0 524288 9) ∷ []))
+      ∷ is (seenOf cnvSeen (startIn paper RemountRo) (cnv0 (Call.Write 8192 100) ∷ doneCnv ∷ [])) (truly (0 ∷ 0 ∷ []) (268435456 ∷ 2 ∷ 0 ∷ 0 ∷ 0 ∷ 0 ∷ 0 ∷ 0 ∷ []))
+      ∷ is (seenOf cnvSeen (startIn paper RemountRo) (cnv0 (Call.Write 8192 100) ∷ failsCnv 0 (falls 0) (zone 1 1 0 524288 9) ∷ []))
       (truly (0 ∷ 7 ∷ []) (268435456 ∷ 2 ∷ 0 ∷ 0 ∷ 0 ∷ 0 ∷ 0 ∷ 1 ∷ []))
       -- where the flag "capacity given" is clear, the record's capacity is its length, whatever it says
-      ∷ is (seenOf cnvSeen (startIn paper Repair) (cnv0 (Call.Read 0 100) ∷ doing (failing 0 (worsens toOffline)) false (encodeZone (zone 1 1 15 7 9)) ∷ []))
+      ∷ is (seenOf cnvSeen (startIn paper Repair) (cnv0 (Call.Read 0 100) ∷ doing (kindCode Conventional) 0 (failing 0 (worsens toOffline)) false (encodeZone (zone 1 1 15 7 9)) ∷ []))
       (truly (0 ∷ 7 ∷ []) (0 ∷ 0 ∷ 0 ∷ 2 ∷ 0 ∷ 0 ∷ 0 ∷ 0 ∷ []))
       -- an aggregated run: the zone at the command's address is its second
-      ∷ is (seenOf cnvSeen (startIn aggregated Repair) (cnv0 (Call.Write 268435456 4096) ∷ fails 0 (worsens toReadOnly) (zone 2 1 13 524288 0) ∷ []))
+      ∷ is (seenOf cnvSeen (startIn aggregated Repair) (cnv0 (Call.Write 268435456 4096) ∷ failsCnv 0 (worsens toReadOnly) (zone 2 1 13 524288 0) ∷ []))
       (truly (0 ∷ 7 ∷ []) (536870912 ∷ 1 ∷ 0 ∷ 0 ∷ 1 ∷ 0 ∷ 0 ∷ 0 ∷ []))
+      ∷ []
+
+  -- seq/0 and seq/1 of the paper's mount, and cnv/0: the sizes of the first two, those that a fresh mount gives, whether they are quiet; what each of
+  -- the three has outstanding; and the read-only mark
+  abbrev pub threeSeen : System → List ℕ
+  threeSeen s =
+      sizeIn (s .state .seq) 0 ∷ sizeIn (s .state .seq) 1 ∷ seqRow (reported (zoneOf s 0)) .size ∷ seqRow (reported (zoneOf s 1)) .size
+      ∷ flagCode (historyOf s 0 .quiet) ∷ flagCode (historyOf s 1 .quiet) ∷ heldIn (s .state .seq) 0 ∷ heldIn (s .state .seq) 1 ∷ heldIn (s .state .cnv) 0
+      ∷ flagCode (s .state .mount .readonly) ∷ []
+
+  abbrev pub onThree : ErrorPolicy → List Event → List ℕ → List ℕ → Case
+  onThree p events answers seen = is (seenOf threeSeen (startIn paper p) events) (truly answers seen)
+
+  -- 02: "each file may have one outstanding"
+  unfoldable pub busyRuns : List Case
+  busyRuns =
+      -- two files busy at once: a call on either is answered 2, one on another file isn't; a completion of a free file is answered 8
+      onThree Repair (write ∷ write1 ∷ flush ∷ seq1 Call.Flush ∷ cnv0 Call.Flush ∷ stray 0 1 Completion.good ∷ []) (0 ∷ 0 ∷ 2 ∷ 2 ∷ 0 ∷ 8 ∷ []) (4096 ∷ 0 ∷ 4096 ∷ 0 ∷ 1 ∷ 1 ∷ 2 ∷ 2 ∷ 5 ∷ 0 ∷ [])
+      -- done in another order than issued, with calls between
+      ∷ onThree Repair (write ∷ write1 ∷ done1 ∷ read1 ∷ done ∷ []) (0 ∷ 0 ∷ 0 ∷ 0 ∷ 0 ∷ []) (12288 ∷ 4096 ∷ 12288 ∷ 4096 ∷ 1 ∷ 1 ∷ 0 ∷ 1 ∷ 0 ∷ 0 ∷ [])
+      -- three files, the last issued done first, and one that fails
+      ∷ onThree Repair (write ∷ write1 ∷ cnv0 (Call.Write 8192 100) ∷ doneCnv ∷ fails1 0 (falls 0) (zone4 2 1 2097152) ∷ done ∷ []) (0 ∷ 0 ∷ 0 ∷ 0 ∷ 7 ∷ 0 ∷ []) (12288 ∷ 0 ∷ 12288 ∷ 0 ∷ 1 ∷ 1 ∷ 0 ∷ 0 ∷ 0 ∷ 0 ∷ [])
+      -- a doing of a file with nothing outstanding does nothing, whatever the others have
+      ∷ onThree Repair (write ∷ done1 ∷ []) (0 ∷ []) (4096 ∷ 0 ∷ 4096 ∷ 0 ∷ 1 ∷ 1 ∷ 2 ∷ 0 ∷ 0 ∷ 0 ∷ [])
+      -- a mishap in one file's zone while both are busy: that file's write must fail, and the other's is done
+      ∷ onThree Repair (write ∷ write1 ∷ mishap 3 (falls 1) ∷ done1 ∷ tries (zone3 2 1 1572864) ∷ []) (0 ∷ 0 ∷ 0 ∷ 7 ∷ []) (0 ∷ 4096 ∷ 0 ∷ 4096 ∷ 1 ∷ 1 ∷ 0 ∷ 0 ∷ 0 ∷ 0 ∷ [])
+      -- "A remount-ro recovery leaves other files' commands outstanding; they complete as usual": the write of seq/1 moves its size on a mount that
+      -- is read-only then, on which a new write is refused
+      ∷ onThree RemountRo (write ∷ write1 ∷ fails 1 (falls 0) (zone3 2 2 1572880) ∷ []) (0 ∷ 0 ∷ 7 ∷ []) (8192 ∷ 0 ∷ 8192 ∷ 0 ∷ 1 ∷ 1 ∷ 0 ∷ 2 ∷ 0 ∷ 1 ∷ [])
+      ∷ onThree RemountRo (write ∷ write1 ∷ fails 1 (falls 0) (zone3 2 2 1572880) ∷ done1 ∷ write1 ∷ []) (0 ∷ 0 ∷ 7 ∷ 0 ∷ 3 ∷ []) (8192 ∷ 4096 ∷ 8192 ∷ 4096 ∷ 1 ∷ 1 ∷ 0 ∷ 0 ∷ 0 ∷ 1 ∷ [])
       ∷ []
 
 -- the runs are of those that demand 3 speaks of, and each ends as its table says
@@ -286,3 +356,4 @@ pub record Runs : Type 0 where
   pub exceptions : AsStated (exceptionRuns mountUnder)
   pub full : AsStated (fullRuns mountUnder)
   pub others : AsStated (otherRuns mountUnder)
+  pub busy : AsStated (busyRuns mountUnder)

@@ -17,19 +17,19 @@ use Rattle.types.specs.declared.Answer.the-variants.{Refused, Done, Issue}
 use Rattle.types.specs.Blocks.{onBlock}
 use Rattle.types.proofs.Tests.{and-right, or-left, or-right}
 use Rattle.checks.proofs.Laws.{reached-sound}
-use Rattle.decision.specs.Decision.{unwritable, misplaced}
+use Rattle.decision.specs.Decision.{unwritable, misplaced, dispatched}
 use Rattle.decision.proofs.Laws.{write-issued, write-issues, dispatch-passed, dispatch-passes}
-use Rattle.calls.specs.Calls.{answered, settled, effectBy}
+use Rattle.types.specs.declared.Effect.{Effect}
+use Rattle.table.specs.Rows.{stored}
+use Rattle.calls.specs.Calls.{effectOf, effectBy}
 use Rattle.calls.proofs.Laws.{call-passed, call-passes}
-use Rattle.engine.specs.Engine.{State}
-use Rattle.engine.specs.Facts.{stepOf}
+use Rattle.engine.specs.Engine.{State, Step, stepBy, step}
 use Rattle.engine.specs.Append.{Permitted, appendCommand, write, AppendCommanded, OnlyAppends}
-use Rattle.engine.proofs.Laws.{call-steps}
 
--- A WRITE, by what its row answers
-write-steps : (s : State) (n o l : ℕ) → write s n o l ≡ stepOf (settled (s .mount) Sequential n (answered (s .mount) (s .cnv) (s .seq) Sequential n (Call.Write o l)) .outcome) (s .cnv) (s .seq)
-unfolding effectBy
-write-steps s n o l = call-steps (s .mount) (s .cnv) (s .seq) 1 n (Call.Write o l)
+-- A WRITE, by what it does
+write-steps : (s : State) (n o l : ℕ) → write s n o l ≡ stepBy s (effectOf (s .mount) (s .cnv) (s .seq) Sequential n (Call.Write o l))
+unfolding step effectBy
+write-steps s n o l = refl
 
 written-access : (a : Access) → unwritable a ≡ false → a ≡ access.Write
 written-access access.Nothing e = cc
@@ -45,28 +45,24 @@ module _ (s : State) (n : ℕ) (r : Row) (o l : ℕ) where
         eq-eqb o (r .size) (p .appends),
       )
 
-  append-answer : Permitted s n r o l → answered (s .mount) (s .cnv) (s .seq) Sequential n (Call.Write o l) ≡ Issue (appendCommand r o l)
+  append-answer : Permitted s n r o l → dispatched (s .mount .readonly) (s .mount .volume .block) Sequential r (Call.Write o l) ≡ Issue (appendCommand r o l)
   append-answer p =
-      call-passes (s .mount) (s .cnv) (s .seq) Sequential n (Call.Write o l) r (record { reached = p .reached; idle = p .idle })
-      ∙ dispatch-passes (s .mount .readonly) (s .mount .volume .block) Sequential r (Call.Write o l) (rw (p .writable))
+      dispatch-passes (s .mount .readonly) (s .mount .volume .block) Sequential r (Call.Write o l) (rw (p .writable))
       ∙ write-issues (s .mount .volume .block) Sequential r o l (appendCommand r o l)
       (record { checked = record { writable = rw (p .access); fits = p .fits; placed = append-placed p }; some = ne-eqb l 0 (λ e. omega (arith, p .some)); command = refl })
 
 pub append-commanded : AppendCommanded
 unfolding AppendCommanded
-append-commanded s n r o l p = write-steps s n o l ∙ rw (append-answer s n r o l p) refl
+append-commanded s n r o l p =
+    write-steps s n o l
+    ∙ rw (call-passes (s .mount) (s .cnv) (s .seq) Sequential n (Call.Write o l) r (record { reached = p .reached; idle = p .idle }), append-answer s n r o l p)
 
 -- THE OTHER WAY ROUND
-settled-issue : (s : State) (n : ℕ) (a : Answer) (c : Command) → settled (s .mount) Sequential n a .outcome .answer ≡ Issue c → a ≡ Issue c
-settled-issue s n (Refused x) c e = e
-settled-issue s n (Done x) c e = e
-settled-issue s n (Issue x) c e = e
-
 pub only-appends : OnlyAppends
 unfolding OnlyAppends
 only-appends s n o l c e =
     let block = s .mount .volume .block in
-    let a = settled-issue s n _ c (sym (ap (λ (t : _). t .reply) (write-steps s n o l)) ∙ e) in
+    let a = sym (ap (λ (t : Step). t .reply) (write-steps s n o l)) ∙ e in
     let (r, (w, g)) = call-passed (s .mount) (s .cnv) (s .seq) Sequential n (Call.Write o l) c a in
     let (ro, d) = dispatch-passed (s .mount .readonly) block Sequential r (Call.Write o l) c g in
     let i = write-issued block Sequential r o l c d in

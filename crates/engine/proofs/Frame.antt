@@ -1,7 +1,8 @@
--- The frame claim.
+-- The frame claim, and what stands beside it.
 -- Assumes nothing.
 use Prim.Native.Nat.{ℕ, _/_}
-use mathlib.Core.Path.{_≡_, refl, sym, subst}
+use native.Mathlib.Omega.{arith}
+use mathlib.Core.Path.{_≡_, refl, sym, ap, _∙_}
 use mathlib.Core.Logic.{_≢_}
 use mathlib.Core.Bool.{Bool, true, false, cond}
 use mathlib.Core.List.{List}
@@ -14,122 +15,129 @@ use Rattle.types.specs.declared.Refusal.the-variants as refusal
 use Rattle.types.specs.declared.ZoneFault.the-variants as fault
 use Rattle.types.specs.declared.Answer.{Answer}
 use Rattle.types.specs.declared.Answer.the-variants.{Refused, Done, Issue}
-use Rattle.types.specs.declared.Outstanding.{Outstanding}
-use Rattle.types.specs.declared.Outstanding.the-variants.{Busy}
+use Rattle.types.specs.declared.Effect.{Effect}
+use Rattle.types.specs.declared.Store.{Store}
+use Rattle.types.specs.declared.Store.the-variants as store
 use Rattle.types.specs.declared.Call.{Call}
-use Rattle.types.specs.Codes.{isKind, kindFrom}
+use Rattle.types.specs.Codes.{kindCode, kindFrom}
+use Rattle.types.specs.Effects.{refusing}
 use Rattle.types.specs.Kinds.{ofKind}
-use Rattle.types.specs.Mounts.{cleared}
 use Rattle.types.specs.Numbers.{answerNumber}
-use Rattle.table.specs.Rows.{rowWidth, stored}
-use Rattle.table.proofs.Laws.{word-outside}
-use Rattle.checks.specs.Checks.{noKind}
-use Rattle.calls.specs.Calls.{settled, answered, effectBy}
+use Rattle.table.specs.Rows.{rowWidth, rowAt, stored}
+use Rattle.table.proofs.Laws.{word-outside, rowAt-other}
+use Rattle.table.proofs.Stores.{stored-either, stored-length, of-stored}
 use Rattle.calls.specs.Calls as calls
+use Rattle.calls.proofs.Laws as called
 use Rattle.zones.specs.declared.Zone.{Zone}
 use Rattle.recovery.specs.Fits.{recordFits, misfit}
 use Rattle.recovery.specs.Recovery.{nothingLost, recoveredRow}
-use Rattle.types.specs.declared.Store.the-variants as store
 use Rattle.held.specs.declared.Pending.{Pending}
 use Rattle.held.specs.declared.Pending.the-variants as pending
 use Rattle.held.specs.Held.{pendingOf}
-use Rattle.held.specs.Facts.{PendingTells}
-use Rattle.held.proofs.Laws.{pending-tells}
-use Rattle.types.specs.declared.Effect.{Effect}
-use Rattle.types.specs.Effects.{refusing}
-use Rattle.completion.specs.Completions.{Completion, good, failed, malformed, succeeded, recovered, recovering, failing, effectOn, effectPending, effectOf}
-use Rattle.completion.proofs.Laws.{effect-fixes}
-use Rattle.engine.specs.Engine.{State, applied, stepBy, step}
-use Rattle.engine.specs.Facts.{stepOf}
-use Rattle.engine.proofs.Laws.{call-steps}
-use Rattle.engine.specs.Frame.{Elsewhere, CallKeeps, TableKeeps, Frame}
-use Rattle.table.proofs.Stores.{stored-either, stored-length, of-stored}
+use Rattle.completion.specs.Completions.{Completion, good, failed, malformed, succeeded, recovered, recovering, failing, effectOn, effectPending}
+use Rattle.engine.specs.Engine.{State, Input, call, completion, effectOf, applied, step}
+use Rattle.engine.specs.Frame.{kindIn, numberIn, Other, tableOf, TableKeeps, Keeps, Frame, CallKeeps, CallsKeep, OthersStay}
+use Rattle.engine.proofs.Laws.{call-by, completion-by, OfFile, effect-names, step-fixes}
 
--- A CALL
-
+-- WHAT AN EFFECT KEEPS of the mount, and of everything where it is refused
 module _ (s : State) where
-  settled-keeps : (k : FileKind) (n : ℕ) (a : Answer) → CallKeeps s (stepOf (settled (s .mount) k n a .outcome) (s .cnv) (s .seq))
-  settled-keeps k n (Refused x) = record { volume = refl; readonly = refl; cnv = refl; seq = refl; refused = λ e. refl }
-  settled-keeps k n (Done x) = record { volume = refl; readonly = refl; cnv = refl; seq = refl; refused = λ e. refl }
-  settled-keeps k n (Issue x) = record { volume = refl; readonly = refl; cnv = refl; seq = refl; refused = λ e. absurd (e refl) }
-
-  call-keeps : (kind n : ℕ) (x : Call) → CallKeeps s (stepOf (effectBy (s .mount) (s .cnv) (s .seq) kind n x .outcome) (s .cnv) (s .seq))
-  unfolding effectBy
-  call-keeps kind n x = by (isKind kind)
-    where
-      by : (t : Bool)
-          → CallKeeps s (stepOf (cond t (calls.effectOf (s .mount) (s .cnv) (s .seq) (kindFrom kind) n x) (refusing (s .mount) (noKind (s .mount .volume) (length (s .cnv)) (length (s .seq)))) .outcome) (s .cnv) (s .seq))
-      by true = settled-keeps (kindFrom kind) n (answered (s .mount) (s .cnv) (s .seq) (kindFrom kind) n x)
-      by false = record { volume = refl; readonly = refl; cnv = refl; seq = refl; refused = λ e. refl }
-
--- A COMPLETION
-
-stored-words : (f : FileKind) (n : ℕ) (r : Row) (k : FileKind) (t : List ℕ) (j : ℕ) → (f ≡ k → j / rowWidth ≡ n → ⊥) → getD (stored k (store.Put f n r) t) j 0 ≡ getD t j 0
-stored-words f n r k t j h = stored-either (λ u. getD u j 0 ≡ getD t j 0) f n r k t (λ e. word-outside t n j r (h e)) refl
-
-module _ (s : State) where
-  -- what it keeps beside what the mount fixes
-  record Keeps (d : Effect) : Type 0 where
+  record Spares (d : Effect) : Type 0 where
+    mount : answerNumber (d .outcome .answer) ≢ 7 → d .outcome .mount ≡ s .mount
     refused : answerNumber (d .outcome .answer) ≢ 0 → answerNumber (d .outcome .answer) ≢ 7 → applied s d ≡ s
-    tables : (k : FileKind) → TableKeeps s (stepBy s d) k
 
-  -- where nothing is stored
-  still : (o : Effect) → o .store ≡ store.Nothing → (k : FileKind) → TableKeeps s (stepBy s o) k
-  still o e k = rw e (record { length = refl; words = λ j f. refl })
+  refusing-spares : (x : Refusal) → Spares (refusing (s .mount) x)
+  refusing-spares x = record { mount = λ e. refl; refused = λ e f. refl }
 
-  -- a refusal changes nothing
-  refusing-keeps : (x : Refusal) → Keeps (refusing (s .mount) x)
-  refusing-keeps x = record { refused = λ e f. refl; tables = still (refusing (s .mount) x) refl }
+  settled-spares : (k : FileKind) (n : ℕ) (r : Row) (a : Answer) → Spares (calls.settled (s .mount) k n r a)
+  settled-spares k n r (Refused x) = refusing-spares x
+  settled-spares k n r (Done x) = record { mount = λ e. refl; refused = λ e f. refl }
+  settled-spares k n r (Issue c) = record { mount = λ e. refl; refused = λ e f. absurd (e refl) }
 
-  -- the held command's row is stored, and the answer is 0 or 7
-  module _ (h : Held) (held : s .mount .outstanding ≡ Busy h) where
-    put-keeps : (d : Effect) (r : Row) → d .store ≡ store.Put (h .kind) (h .number) r → (answerNumber (d .outcome .answer) ≢ 0 → answerNumber (d .outcome .answer) ≢ 7 → ⊥) → Keeps d
-    put-keeps d r put never = record {
-      refused = λ e f. absurd (never e f);
-      tables = λ k. record {
-        length = rw (put, of-stored k (store.Put (h .kind) (h .number) r) (s .cnv) (s .seq)) (stored-length k (store.Put (h .kind) (h .number) r) (ofKind k (s .cnv) (s .seq)));
-        words = λ j e. rw (put, of-stored k (store.Put (h .kind) (h .number) r) (s .cnv) (s .seq)) (stored-words (h .kind) (h .number) r k (ofKind k (s .cnv) (s .seq)) j (subst (λ (o : Outstanding). Elsewhere o k j) held e));
-      };
+  -- a command that failed
+  failing-spares : (h : Held) (r : Row) → Spares (failing (s .mount) h r)
+  failing-spares h r = record { mount = λ e. absurd (e refl); refused = λ e f. absurd (f refl) }
+
+  recovering-spares : (h : Held) (r : Row) → Spares (recovering (s .mount) h r)
+  recovering-spares h r = record { mount = λ e. absurd (e refl); refused = λ e f. absurd (f refl) }
+
+  recovered-spares : (h : Held) (r : Row) (z : Zone) → Spares (recovered (s .mount) h r z)
+  unfolding recovered
+  recovered-spares h r z = by (nothingLost (h .kind) (h .command .kind) z (r .size))
+    where
+      by : (t : Bool) → Spares (cond t (failing (s .mount) h r) (recovering (s .mount) h (recoveredRow (s .mount .volume .policy) (h .kind) z r)))
+      by true = failing-spares h r
+      by false = recovering-spares h (recoveredRow (s .mount .volume .policy) (h .kind) z r)
+
+  effect-spares : (h : Held) (r : Row) (x : Completion) → Spares (effectOn (s .mount) h r x)
+  unfolding succeeded
+  effect-spares h r good = record { mount = λ e. refl; refused = λ e f. absurd (e refl) }
+  effect-spares h r (failed z) = by (recordFits (s .mount .volume .block) (h .kind) r z)
+    where
+      misfitting : Refusal
+      misfitting = refusal.BadRecord (misfit (s .mount .volume .block) (h .kind) r z)
+
+      by : (t : Bool) → Spares (cond t (recovered (s .mount) h r z) (refusing (s .mount) misfitting))
+      by true = recovered-spares h r z
+      by false = refusing-spares misfitting
+  effect-spares h r malformed = refusing-spares (refusal.BadRecord fault.Nothing)
+
+  pending-spares : (p : Pending) (x : Completion) → Spares (effectPending (s .mount) p x)
+  pending-spares (pending.On h r) x = effect-spares h r x
+  pending-spares (pending.Refused y) x = refusing-spares y
+
+  input-spares : (x : Input) → Spares (effectOf s x)
+  input-spares (call kind n x) =
+      call-by (s .mount) (s .cnv) (s .seq) Spares kind n x
+      (λ e. called.call-cases (s .mount) (s .cnv) (s .seq) (kindFrom kind) n x Spares (λ r w. settled-spares (kindFrom kind) n r (calls.onRow (s .mount) (kindFrom kind) r x)) (λ y f. refusing-spares y))
+      (refusing-spares _)
+  input-spares (completion kind n x) =
+      completion-by (s .mount) (s .cnv) (s .seq) Spares kind n x (λ e. pending-spares (pendingOf (s .mount) (s .cnv) (s .seq) (kindFrom kind) n) x) (refusing-spares _)
+
+-- WHAT A STORE KEEPS of a table
+stored-words : (x : Input) (k : FileKind) (d : Store) (t : List ℕ) (j : ℕ) → OfFile (kindIn x) (numberIn x) d → Other x k (j / rowWidth) → getD (stored k d t) j 0 ≡ getD t j 0
+stored-words x k store.Nothing t j of other = refl
+stored-words x k (store.Put f n r) t j (kind, number) other =
+    stored-either (λ u. getD u j 0 ≡ getD t j 0) f n r k t (λ e. word-outside t n j r (λ q. other (ap kindCode (sym e) ∙ kind) (q ∙ number))) refl
+
+pub stored-rows : (x : Input) (k : FileKind) (d : Store) (t : List ℕ) (n : ℕ) → OfFile (kindIn x) (numberIn x) d → Other x k n → rowAt (stored k d t) n ≡ rowAt t n
+stored-rows x k store.Nothing t n of other = refl
+stored-rows x k (store.Put f i r) t n (kind, number) other =
+    stored-either (λ u. rowAt u n ≡ rowAt t n) f i r k t (λ e. rowAt-other t i n r (λ q. other (ap kindCode (sym e) ∙ kind) (sym q ∙ number))) refl
+
+tables-keep : (s : State) (x : Input) (k : FileKind) → TableKeeps s x (applied s (effectOf s x)) k
+tables-keep s x k =
+    let d = effectOf s x .store in
+    record {
+      length = rw (of-stored k d (s .cnv) (s .seq)) (stored-length k d (tableOf k s));
+      words = λ j other. rw (of-stored k d (s .cnv) (s .seq)) (stored-words x k d (tableOf k s) j (effect-names s x) other);
     }
-
-    success-keeps : (r : Row) → Keeps (succeeded (s .mount) h r)
-    unfolding succeeded
-    success-keeps r = put-keeps _ _ refl (λ e f. e refl)
-
-    recovered-keeps : (r : Row) (z : Zone) → Keeps (recovered (s .mount) h r z)
-    unfolding recovered
-    recovered-keeps r z = by (nothingLost (h .kind) (h .command .kind) z (r .size))
-      where
-        by : (t : Bool) → Keeps (cond t (failing (cleared (s .mount)) r store.Nothing) (recovering (s .mount) h (recoveredRow (s .mount .volume .policy) (h .kind) z r)))
-        by true = record { refused = λ e f. absurd (f refl); tables = still _ refl }
-        by false = put-keeps _ _ refl (λ e f. f refl)
-
-    effect-keeps : (r : Row) (x : Completion) → Keeps (effectOn (s .mount) h r x)
-    effect-keeps r good = success-keeps r
-    effect-keeps r (failed z) = by (recordFits (s .mount .volume .block) (h .kind) r z)
-      where
-        misfitting : Refusal
-        misfitting = refusal.BadRecord (misfit (s .mount .volume .block) (h .kind) r z)
-
-        by : (t : Bool) → Keeps (cond t (recovered (s .mount) h r z) (refusing (s .mount) misfitting))
-        by true = recovered-keeps r z
-        by false = refusing-keeps misfitting
-    effect-keeps r malformed = refusing-keeps (refusal.BadRecord fault.Nothing)
-
-  pending-keeps : (p : Pending) → PendingTells (s .mount) (s .cnv) (s .seq) p → (x : Completion) → Keeps (effectPending (s .mount) p x)
-  pending-keeps (pending.On h r) w x = effect-keeps h (w .held) r x
-  pending-keeps (pending.Refused y) w x = refusing-keeps y
-
-  completion-keeps : (x : Completion) → Keeps (effectOf (s .mount) (s .cnv) (s .seq) x)
-  unfolding effectOf
-  completion-keeps x = pending-keeps (pendingOf (s .mount) (s .cnv) (s .seq)) (pending-tells (s .mount) (s .cnv) (s .seq)) x
 
 -- THE CLAIM
 pub frame : Frame
-unfolding step
-frame = record {
-  calls = λ s kind n x. subst (CallKeeps s) (sym (call-steps (s .mount) (s .cnv) (s .seq) kind n x)) (call-keeps s kind n x);
-  completions = λ s x.
-      let w = completion-keeps s x in
-      record { volume = effect-fixes (s .mount) (s .cnv) (s .seq) x; tables = w .tables; refused = w .refused };
-}
+unfolding Frame step
+frame s x =
+    let w = input-spares s x in
+    record { volume = step-fixes s x; mount = w .mount; tables = tables-keep s x; refused = w .refused }
+
+-- A CALL never moves the mark.
+settled-keeps : (s : State) (k : FileKind) (n : ℕ) (r : Row) (a : Answer) (count : ℕ) → let d = calls.settled (s .mount) k n r a in d .outcome .answer ≡ Done count → applied s d ≡ s
+settled-keeps s k n r (Refused y) count e = refl
+settled-keeps s k n r (Done y) count e = refl
+settled-keeps s k n r (Issue c) count e = let z : _≡_ {A = ℕ} 0 1 = cc in absurd (omega arith)
+
+pub calls-keep : CallsKeep
+unfolding CallsKeep step
+calls-keep s kind n x =
+    record {
+      mount = call-by (s .mount) (s .cnv) (s .seq) (λ d. d .outcome .mount ≡ s .mount) kind n x (λ e. called.effect-keeps (s .mount) (s .cnv) (s .seq) (kindFrom kind) n x) refl;
+      atOnce = λ count.
+          let P : Effect → Type 0 = λ d. d .outcome .answer ≡ Done count → applied s d ≡ s in
+          call-by (s .mount) (s .cnv) (s .seq) P kind n x
+          (λ e. called.call-cases (s .mount) (s .cnv) (s .seq) (kindFrom kind) n x P (λ r w. settled-keeps s (kindFrom kind) n r (calls.onRow (s .mount) (kindFrom kind) r x) count) (λ y f g. refl))
+          (λ g. refl);
+    }
+
+-- ANOTHER FILE'S ROW stays.
+pub others-stay : OthersStay
+unfolding OthersStay step
+others-stay s x k n other = let d = effectOf s x .store in rw (of-stored k d (s .cnv) (s .seq)) (stored-rows x k d (tableOf k s) n (effect-names s x) other)

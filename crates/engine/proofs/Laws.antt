@@ -1,89 +1,117 @@
--- What a step is, from the effect that its call or completion has; that no call stores a row; and what a step leaves of the mount.
+-- What a step is, from the effect that its call or completion has; which row that effect stores; and what a step leaves of the mount.
 -- Assumes nothing.
-use Prim.Native.Nat.{ℕ, _<_}
-use mathlib.Core.Path.{_≡_, refl, ap, _∙_, sym}
+use Prim.Native.Nat.{ℕ}
+use mathlib.Core.Path.{_≡_, refl, ap, _∙_, sym, subst}
 use mathlib.Core.Bool.{Bool, true, false, cond}
 use mathlib.Core.List.{List, [], _∷_}
 use lib.ListN.{length}
 use Rattle.types.specs.declared.Mount.{Mount}
+use Rattle.types.specs.declared.Row.{Row}
 use Rattle.types.specs.declared.FileKind.{FileKind}
 use Rattle.types.specs.declared.Call.{Call}
-use Rattle.types.specs.declared.Command.{Command}
-use Rattle.types.specs.declared.Outstanding.{Outstanding}
-use Rattle.types.specs.declared.Outstanding.the-variants.{Idle, Busy}
 use Rattle.types.specs.declared.Answer.{Answer}
 use Rattle.types.specs.declared.Answer.the-variants.{Refused, Done, Issue}
 use Rattle.types.specs.declared.Outcome.{Outcome}
 use Rattle.types.specs.declared.Effect.{Effect}
-use Rattle.types.specs.declared.Store.the-variants.{Nothing}
-use Rattle.types.specs.Codes.{isKind, kindFrom}
-use Rattle.types.specs.Kinds.{filesOf}
+use Rattle.types.specs.declared.Store.{Store}
+use Rattle.types.specs.declared.Store.the-variants as store
+use Rattle.types.specs.Codes.{kindCode, isKind, kindFrom}
 use Rattle.types.specs.Effects.{refusing}
+use Rattle.types.proofs.CodeLaws.{kind-there}
+use Rattle.table.specs.Facts.{StoreFits}
 use Rattle.checks.specs.Checks.{noKind}
 use Rattle.calls.specs.Calls as calls
 use Rattle.calls.proofs.Laws as called
-use Rattle.completion.specs.Completions.{Completion}
+use Rattle.held.specs.declared.Pending.{Pending}
+use Rattle.held.specs.declared.Pending.the-variants as pending
+use Rattle.held.specs.Held.{pendingOf}
+use Rattle.held.specs.Facts.{PendingTells}
+use Rattle.held.proofs.Laws.{pending-tells}
+use Rattle.recovery.specs.Fits.{recordFits}
+use Rattle.recovery.specs.Recovery.{nothingLost}
+use Rattle.completion.specs.Completions.{Completion, succeeded, recovered, effectPending}
 use Rattle.completion.specs.Completions as completions
-use Rattle.calls.proofs.Laws.{call-passed}
-use Rattle.completion.proofs.Laws.{effect-holds}
+use Rattle.completion.proofs.Laws.{either}
 use Rattle.completion.proofs.Laws as completed
-use Rattle.engine.specs.Engine.{State, Input, call, completion, stepBy, step, run}
+use Rattle.engine.specs.Engine.{State, Input, call, completion, effectOf, stepBy, step, run}
 use Rattle.engine.specs.Facts.{stateOf, stepOf}
+use Rattle.engine.specs.Frame.{kindIn, numberIn}
 
--- NO CALL STORES A ROW, whatever it answers.
-settled-stores : (m : Mount) (k : FileKind) (i : ℕ) (a : Answer) → calls.settled m k i a .store ≡ Nothing
-settled-stores m k i (Issue c) = refl
-settled-stores m k i (Done count) = refl
-settled-stores m k i (Refused x) = refl
-
-module _ (m : Mount) (cnv seq : List ℕ) (kind n : ℕ) (x : Call) where
-  pub call-stores : calls.effectBy m cnv seq kind n x .store ≡ Nothing
-  unfolding calls.effectBy
-  call-stores = by (isKind kind)
-    where
-      by : (t : Bool) → cond t (calls.effectOf m cnv seq (kindFrom kind) n x) (refusing m (noKind (m .volume) (length cnv) (length seq))) .store ≡ Nothing
-      by true = settled-stores m (kindFrom kind) n (calls.answered m cnv seq (kindFrom kind) n x)
-      by false = refl
-
-  -- so a call leaves both tables
-  pub call-steps : step (stateOf m cnv seq) (call kind n x) ≡ stepOf (calls.effectBy m cnv seq kind n x .outcome) cnv seq
-  unfolding step
-  call-steps = rw call-stores
-
--- A COMPLETION, whose effect a function found and applied
-pub completion-steps : {cnv′ seq′ : List ℕ} {e : Effect} {r : Outcome} (m : Mount) (cnv seq : List ℕ) (x : Completion) → e ≡ completions.effectOf m cnv seq x
-    → ((w : Mount) → stepBy (stateOf w cnv seq) e ≡ stepOf r cnv′ seq′) → step (stateOf m cnv seq) (completion x) ≡ stepOf r cnv′ seq′
+-- A STEP, whose effect a function found and applied
+pub applied-steps : {cnv′ seq′ : List ℕ} {e : Effect} {r : Outcome} (m : Mount) (cnv seq : List ℕ) (x : Input) → e ≡ effectOf (stateOf m cnv seq) x
+    → ((w : Mount) → stepBy (stateOf w cnv seq) e ≡ stepOf r cnv′ seq′) → step (stateOf m cnv seq) x ≡ stepOf r cnv′ seq′
 unfolding step
-completion-steps m cnv seq x found applied = ap (stepBy (stateOf m cnv seq)) (sym found) ∙ applied m
+applied-steps m cnv seq x found applied = ap (stepBy (stateOf m cnv seq)) (sym found) ∙ applied m
+
+-- AN EFFECT is that of an input on a file, or the refusal of a number that is no kind.
+module _ (m : Mount) (cnv seq : List ℕ) (P : Effect → Type 0) where
+  by-kind : (kind : ℕ) (d : Effect) → (isKind kind ≡ true → P d) → P (refusing m (noKind (m .volume) (length cnv) (length seq)))
+      → P (cond (isKind kind) d (refusing m (noKind (m .volume) (length cnv) (length seq))))
+  by-kind kind d on off = by (isKind kind) on
+    where
+      by : (t : Bool) → (t ≡ true → P d) → P (cond t d (refusing m (noKind (m .volume) (length cnv) (length seq))))
+      by true on = on refl
+      by false on = off
+
+  pub call-by : (kind n : ℕ) (x : Call) → (isKind kind ≡ true → P (calls.effectOf m cnv seq (kindFrom kind) n x))
+      → P (refusing m (noKind (m .volume) (length cnv) (length seq))) → P (calls.effectBy m cnv seq kind n x)
+  unfolding calls.effectBy
+  call-by kind n x on off = by-kind kind (calls.effectOf m cnv seq (kindFrom kind) n x) on off
+
+  pub completion-by : (kind n : ℕ) (x : Completion) → (isKind kind ≡ true → P (completions.effectOf m cnv seq (kindFrom kind) n x))
+      → P (refusing m (noKind (m .volume) (length cnv) (length seq))) → P (completions.effectBy m cnv seq kind n x)
+  unfolding completions.effectBy
+  completion-by kind n x on off = by-kind kind (completions.effectOf m cnv seq (kindFrom kind) n x) on off
+
+-- what is stored is a row of the tables
+pub effect-fits : (s : State) (x : Input) → StoreFits (s .cnv) (s .seq) (effectOf s x .store)
+effect-fits s (call kind n x) =
+    call-by (s .mount) (s .cnv) (s .seq) (λ d. StoreFits (s .cnv) (s .seq) (d .store)) kind n x (λ e. called.effect-fits (s .mount) (s .cnv) (s .seq) (kindFrom kind) n x) tt
+effect-fits s (completion kind n x) =
+    completion-by (s .mount) (s .cnv) (s .seq) (λ d. StoreFits (s .cnv) (s .seq) (d .store)) kind n x (λ e. completed.effect-fits (s .mount) (s .cnv) (s .seq) (kindFrom kind) n x) tt
+
+-- THE ROW THAT IS STORED is that of the file which the input names.
+abbrev pub OfFile : (kind n : ℕ) → Store → Type 0
+OfFile kind n store.Nothing = Unit
+OfFile kind n (store.Put k i r) = (kindCode k ≡ kind) × (i ≡ n)
+
+settled-names : (m : Mount) (k : FileKind) (i : ℕ) (r : Row) (a : Answer) → OfFile (kindCode k) i (calls.settled m k i r a .store)
+settled-names m k i r (Refused y) = tt
+settled-names m k i r (Done count) = tt
+settled-names m k i r (Issue c) = (refl, refl)
+
+pending-names : (m : Mount) (cnv seq : List ℕ) (k : FileKind) (i : ℕ) (p : Pending) (x : Completion) → PendingTells m cnv seq k i p → OfFile (kindCode k) i (effectPending m p x .store)
+unfolding succeeded recovered
+pending-names m cnv seq k i (pending.Refused y) x w = tt
+pending-names m cnv seq k i (pending.On h r) Completion.good (w, (e, f)) = (ap kindCode e, f)
+pending-names m cnv seq k i (pending.On h r) (Completion.failed z) (w, (e, f)) =
+    let P : Effect → Type 0 = λ d. OfFile (kindCode k) i (d .store) in
+    either P (recordFits (m .volume .block) (h .kind) r z) _ _ (either P (nothingLost (h .kind) (h .command .kind) z (r .size)) _ _ (ap kindCode e, f) (ap kindCode e, f)) tt
+pending-names m cnv seq k i (pending.On h r) Completion.malformed w = tt
+
+pub effect-names : (s : State) (x : Input) → OfFile (kindIn x) (numberIn x) (effectOf s x .store)
+effect-names s (call kind n x) =
+    let P : Effect → Type 0 = λ d. OfFile kind n (d .store) in
+    call-by (s .mount) (s .cnv) (s .seq) P kind n x (λ e.
+    subst (λ j. OfFile j n (calls.effectOf (s .mount) (s .cnv) (s .seq) (kindFrom kind) n x .store)) (kind-there kind e)
+    (called.call-cases (s .mount) (s .cnv) (s .seq) (kindFrom kind) n x (λ d. OfFile (kindCode (kindFrom kind)) n (d .store)) (λ r w. settled-names (s .mount) (kindFrom kind) n r (calls.onRow (s .mount) (kindFrom kind) r x)) (λ y f. tt))) tt
+effect-names s (completion kind n x) =
+    let P : Effect → Type 0 = λ d. OfFile kind n (d .store) in
+    completion-by (s .mount) (s .cnv) (s .seq) P kind n x (λ e.
+    subst (λ j. OfFile j n (completions.effectOf (s .mount) (s .cnv) (s .seq) (kindFrom kind) n x .store)) (kind-there kind e)
+    (pending-names (s .mount) (s .cnv) (s .seq) (kindFrom kind) n (pendingOf (s .mount) (s .cnv) (s .seq) (kindFrom kind) n) x (pending-tells (s .mount) (s .cnv) (s .seq) (kindFrom kind) n))) tt
 
 -- WHAT THE MOUNT FIXES stays, over a step and over a run.
 pub step-fixes : (s : State) (x : Input) → step s x .state .mount .volume ≡ s .mount .volume
-unfolding step calls.effectBy
-step-fixes s (call kind n x) = by (isKind kind)
-  where
-    by : (t : Bool) → cond t (calls.effectOf (s .mount) (s .cnv) (s .seq) (kindFrom kind) n x) (refusing (s .mount) (noKind (s .mount .volume) (length (s .cnv)) (length (s .seq)))) .outcome .mount .volume ≡ s .mount .volume
-    by true = called.effect-fixes (s .mount) (s .cnv) (s .seq) (kindFrom kind) n x
-    by false = refl
-step-fixes s (completion x) = completed.effect-fixes (s .mount) (s .cnv) (s .seq) x
+unfolding step
+step-fixes s (call kind n x) =
+    call-by (s .mount) (s .cnv) (s .seq) (λ d. d .outcome .mount .volume ≡ s .mount .volume) kind n x
+    (λ e. ap (λ (m : Mount). m .volume) (called.effect-keeps (s .mount) (s .cnv) (s .seq) (kindFrom kind) n x)) refl
+step-fixes s (completion kind n x) =
+    completion-by (s .mount) (s .cnv) (s .seq) (λ d. d .outcome .mount .volume ≡ s .mount .volume) kind n x
+    (λ e. completed.effect-fixes (s .mount) (s .cnv) (s .seq) (kindFrom kind) n x) refl
 
 pub run-fixes : (s : State) (xs : List Input) → run s xs .state .mount .volume ≡ s .mount .volume
 unfolding run
 run-fixes s [] = refl
 run-fixes s (x ∷ xs) = run-fixes (step s x .state) xs ∙ step-fixes s x
-
--- WHAT IS OUTSTANDING after a step was so before, or is nothing, or is a command that a call issued on a file that there is.
-pub step-holds : (P : Outstanding → Type 0) (s : State) (x : Input) → P (s .mount .outstanding) → P Idle
-    → ((k : FileKind) (n : ℕ) (c : Command) → n < filesOf k (s .mount .volume) → P (Busy (record { kind = k; number = n; command = c }))) → P (step s x .state .mount .outstanding)
-unfolding step calls.effectBy
-step-holds P s (call kind n x) old idle issued = by (isKind kind)
-  where
-    settles : (k : FileKind) (a : Answer) → calls.answered (s .mount) (s .cnv) (s .seq) k n x ≡ a → P (calls.settled (s .mount) k n a .outcome .mount .outstanding)
-    settles k (Refused y) e = old
-    settles k (Done y) e = old
-    settles k (Issue c) e = let (r, (w, g)) = call-passed (s .mount) (s .cnv) (s .seq) k n x c e in issued k n c (w .reached .number)
-
-    by : (t : Bool)
-        → P (cond t (calls.effectOf (s .mount) (s .cnv) (s .seq) (kindFrom kind) n x) (refusing (s .mount) (noKind (s .mount .volume) (length (s .cnv)) (length (s .seq)))) .outcome .mount .outstanding)
-    by true = settles (kindFrom kind) (calls.answered (s .mount) (s .cnv) (s .seq) (kindFrom kind) n x) refl
-    by false = old
-step-holds P s (completion x) old idle issued = effect-holds P (s .mount) (s .cnv) (s .seq) old idle x

@@ -13,7 +13,7 @@ use Rattle.types.specs.declared.Answer.the-variants.{Issue}
 use Rattle.types.specs.declared.Outstanding.the-variants.{Idle}
 use Rattle.types.specs.Blocks.{bytesOf}
 use Rattle.types.specs.Codes.{kindCode}
-use Rattle.types.specs.Mounts.{holding}
+use Rattle.table.specs.Rows.{setRow, holding}
 use Rattle.checks.specs.Facts.{Reached}
 use Rattle.engine.specs.Engine.{State, Input, Step, step}
 
@@ -21,7 +21,7 @@ use Rattle.engine.specs.Engine.{State, Input, Step, step}
 -- answered 0. Else a write command."
 pub record Permitted (s : State) (n : ℕ) (r : Row) (offset length : ℕ) : Type 0 where
   pub reached : Reached (s .mount .volume) (s .cnv) (s .seq) Sequential n r
-  pub idle : s .mount .outstanding ≡ Idle
+  pub idle : r .outstanding ≡ Idle
   pub writable : s .mount .readonly ≡ false
   pub access : r .access ≡ access.Write
   pub fits : offset + length ≤ r .capacity
@@ -36,17 +36,14 @@ appendCommand r offset length = record { kind = Write; address = bytesOf (r .sta
 abbrev pub write : State → ℕ → ℕ → ℕ → Step
 write s n offset length = step s (Input.call (kindCode Sequential) n (Call.Write offset length))
 
--- the command, and the state with it outstanding and nothing else changed
-abbrev pub commanded : State → ℕ → Command → Step
-commanded s n c =
-    record {
-      reply = Issue c;
-      state = record { mount = holding (s .mount) (record { kind = Sequential; number = n; command = c }); cnv = s .cnv; seq = s .seq };
-    }
+-- the command, and the state with it outstanding on its file and nothing else changed
+abbrev pub commanded : State → ℕ → Row → Command → Step
+commanded s n r c =
+    record { reply = Issue c; state = record { mount = s .mount; cnv = s .cnv; seq = setRow (s .seq) n (holding r c) } }
 
 unfoldable pub AppendCommanded : Type 0
 AppendCommanded =
-    (s : State) (n : ℕ) (r : Row) (offset length : ℕ) → Permitted s n r offset length → write s n offset length ≡ commanded s n (appendCommand r offset length)
+    (s : State) (n : ℕ) (r : Row) (offset length : ℕ) → Permitted s n r offset length → write s n offset length ≡ commanded s n r (appendCommand r offset length)
 
 unfoldable pub OnlyAppends : Type 0
 OnlyAppends =

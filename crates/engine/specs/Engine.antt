@@ -23,15 +23,15 @@ pub record State : Type 0 where
 abbrev pub mounted : Mounting → State
 mounted o = record { mount = o .mount; cnv = o .cnv; seq = o .seq }
 
--- what comes in: a call on the file of a kind's number and a number, or a completion
+-- what comes in, about the file of a kind's number and a number: a call, or a completion of the command that it has outstanding
 pub data Input : Type 0 where
   call : (kind number : ℕ) → Call → Input
-  completion : Completion → Input
+  completion : (kind number : ℕ) → Completion → Input
 
 -- "decides each call and digests each completion"
 abbrev pub effectOf : State → Input → Effect
 effectOf s (call kind n x) = calls.effectBy (s .mount) (s .cnv) (s .seq) kind n x
-effectOf s (completion x) = completions.effectOf (s .mount) (s .cnv) (s .seq) x
+effectOf s (completion kind n x) = completions.effectBy (s .mount) (s .cnv) (s .seq) kind n x
 
 -- the state once an effect is applied to it
 abbrev pub applied : State → Effect → State

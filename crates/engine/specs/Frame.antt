@@ -1,43 +1,63 @@
 -- The last sentence of demand 3, for any mount value and tables whatever: a call or a completion alters at most the row that it concerns;
--- beyond that only the held command and the read-only mark can move; and "all but 7 change nothing", those answered 0 aside.
--- "A call concerns the row of the file it names, a completion that of the held command." A call alters no table at all.
+-- beyond that only the read-only mark can move; and "All but 7 change nothing.", those answered 0 aside.
+-- "A call concerns the row of the file it names, a completion that of the held command", whose file it names since 02.
 use Prim.Native.Nat.{ℕ, _/_}
 use mathlib.Core.Path.{_≡_}
+use mathlib.Core.List.{List}
 use mathlib.Core.Logic.{_≢_}
 use lib.ListN.{length, getD}
 use Rattle.types.specs.declared.Call.{Call}
 use Rattle.types.specs.declared.FileKind.{FileKind}
-use Rattle.types.specs.declared.Outstanding.{Outstanding}
-use Rattle.types.specs.declared.Outstanding.the-variants.{Idle, Busy}
+use Rattle.types.specs.declared.Answer.the-variants.{Done}
+use Rattle.types.specs.Codes.{kindCode}
 use Rattle.types.specs.Kinds.{ofKind}
 use Rattle.types.specs.Numbers.{answerNumber}
-use Rattle.table.specs.Rows.{rowWidth}
-use Rattle.completion.specs.Completions.{Completion}
-use Rattle.engine.specs.Engine.{State, call, completion, Step, step}
+use Rattle.table.specs.Rows.{rowWidth, rowAt}
+use Rattle.engine.specs.Engine.{State, Input, call, completion, Step, step}
 
--- the word of this number in the table of kind k is none of the held command's row
-abbrev pub Elsewhere : Outstanding → FileKind → ℕ → Type 0
-Elsewhere Idle k word = Unit {0}
-Elsewhere (Busy h) k word = h .kind ≡ k → word / rowWidth ≡ h .number → ⊥
+-- the file that an input names: its kind's number, and its number
+abbrev pub kindIn : Input → ℕ
+kindIn (call kind n x) = kind
+kindIn (completion kind n x) = kind
 
-pub record CallKeeps (s : State) (t : Step) : Type 0 where
+abbrev pub numberIn : Input → ℕ
+numberIn (call kind n x) = n
+numberIn (completion kind n x) = n
+
+-- file n of kind k is another one
+abbrev pub Other : Input → FileKind → ℕ → Type 0
+Other x k n = kindCode k ≡ kindIn x → n ≡ numberIn x → ⊥
+
+-- the table of a kind
+abbrev pub tableOf : FileKind → State → List ℕ
+tableOf k s = ofKind k (s .cnv) (s .seq)
+
+-- of the table of kind k: every word but those of the row that is named
+pub record TableKeeps (s : State) (x : Input) (t : State) (k : FileKind) : Type 0 where
+  pub length : length (tableOf k t) ≡ length (tableOf k s)
+  pub words : (word : ℕ) → Other x k (word / rowWidth) → getD (tableOf k t) word 0 ≡ getD (tableOf k s) word 0
+
+pub record Keeps (s : State) (x : Input) (t : Step) : Type 0 where
   pub volume : t .state .mount .volume ≡ s .mount .volume
-  pub readonly : t .state .mount .readonly ≡ s .mount .readonly
-  pub cnv : t .state .cnv ≡ s .cnv
-  pub seq : t .state .seq ≡ s .seq
-  pub refused : answerNumber (t .reply) ≢ 0 → t .state ≡ s
-
--- of the table of kind k
-pub record TableKeeps (s : State) (t : Step) (k : FileKind) : Type 0 where
-  pub length : length (ofKind k (t .state .cnv) (t .state .seq)) ≡ length (ofKind k (s .cnv) (s .seq))
-  pub words : (word : ℕ) → Elsewhere (s .mount .outstanding) k word
-      → getD (ofKind k (t .state .cnv) (t .state .seq)) word 0 ≡ getD (ofKind k (s .cnv) (s .seq)) word 0
-
-pub record CompletionKeeps (s : State) (t : Step) : Type 0 where
-  pub volume : t .state .mount .volume ≡ s .mount .volume
-  pub tables : (k : FileKind) → TableKeeps s t k
+  -- the mark moves with a 7 alone, which only a completion answers
+  pub mount : answerNumber (t .reply) ≢ 7 → t .state .mount ≡ s .mount
+  pub tables : (k : FileKind) → TableKeeps s x (t .state) k
   pub refused : answerNumber (t .reply) ≢ 0 → answerNumber (t .reply) ≢ 7 → t .state ≡ s
 
-pub record Frame : Type 0 where
-  pub calls : (s : State) (kind n : ℕ) (x : Call) → CallKeeps s (step s (call kind n x))
-  pub completions : (s : State) (x : Completion) → CompletionKeeps s (step s (completion x))
+-- THE FRAME
+unfoldable pub Frame : Type 0
+Frame = (s : State) (x : Input) → Keeps s x (step s x)
+
+-- ---- beside it
+
+-- a call never moves the mark, and one that is answered at once changes nothing
+pub record CallKeeps (s : State) (t : Step) : Type 0 where
+  pub mount : t .state .mount ≡ s .mount
+  pub atOnce : (count : ℕ) → t .reply ≡ Done count → t .state ≡ s
+
+unfoldable pub CallsKeep : Type 0
+CallsKeep = (s : State) (kind n : ℕ) (x : Call) → CallKeeps s (step s (call kind n x))
+
+-- another file's row stays as it was, and what is outstanding on it with it: that changes by its own calls and completions alone
+unfoldable pub OthersStay : Type 0
+OthersStay = (s : State) (x : Input) (k : FileKind) (n : ℕ) → Other x k n → rowAt (tableOf k (step s x .state)) n ≡ rowAt (tableOf k s) n

@@ -1,4 +1,5 @@
 pub mod Append
+pub mod Commuting
 pub mod Engine
 pub mod Facts
 pub mod Frame

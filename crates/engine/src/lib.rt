@@ -20,40 +20,50 @@ fn apply(cnv: &mut [u64], seq: &mut [u64], effect: Effect) -> Outcome
     effect.outcome
 }
 
-// A call on a file whose kind is given as a number. No call stores a row, so the tables are lent to be read.
-pub fn call(m: Mount, cnv: &[u64], seq: &[u64], kind: u64, number: u32, x: Call) -> Outcome
-    ensures { λ r. ⌜ step (stateOf m (now (cnv .entry)) (now (seq .entry))) (Input.call kind number x) ≡ stepOf r (now (cnv .entry)) (now (seq .entry)) ⌝ }
+// A call on a file whose kind is given as a number.
+pub fn call(m: Mount, cnv: &mut [u64], seq: &mut [u64], kind: u64, number: u32, x: Call) -> Outcome
+    ensures { λ r. ⌜ step (stateOf m (now (cnv .entry)) (now (seq .entry))) (Input.call kind number x) ≡ stepOf r (now (cnv .exit)) (now (seq .exit)) ⌝ }
 {
-    let effect = calls::call_by(m, cnv, seq, kind, number, x);
-    effect.outcome
+    let effect = calls::call_by(m, &cnv[..], &seq[..], kind, number, x);
+    apply(cnv, seq, effect)
 }
 
-// The outstanding command was done well, or it failed: then the bytes are its zone's record, and `given` says that the record states a
-// capacity. For those that are told by a flag which of both it is.
+// The command that a file has outstanding was done well, or it failed: then the bytes are its zone's record, and `given` says that the record
+// states a capacity. For those that are told by a flag which of both it is.
 pub fn end_command(
     m: Mount,
     cnv: &mut [u64],
     seq: &mut [u64],
+    kind: u64,
+    number: u32,
     done: bool,
     bytes: &[u8],
     given: bool,
 ) -> Outcome
-    ensures { λ r. ⌜ step (stateOf m (now (cnv .entry)) (now (seq .entry))) (Input.completion (completionBy done given (now (bytes .entry)))) ≡ stepOf r (now (cnv .exit)) (now (seq .exit)) ⌝ }
+    ensures { λ r. ⌜ step (stateOf m (now (cnv .entry)) (now (seq .entry))) (Input.completion kind number (completionBy done given (now (bytes .entry)))) ≡ stepOf r (now (cnv .exit)) (now (seq .exit)) ⌝ }
 {
-    let effect = completion::end_command(m, &cnv[..], &seq[..], done, bytes, given);
+    let effect = completion::end_by(m, &cnv[..], &seq[..], kind, number, done, bytes, given);
     apply(cnv, seq, effect)
 }
 
-// The outstanding command was done well.
-pub fn complete(m: Mount, cnv: &mut [u64], seq: &mut [u64]) -> Outcome
-    ensures { λ r. ⌜ step (stateOf m (now (cnv .entry)) (now (seq .entry))) (Input.completion Completion.good) ≡ stepOf r (now (cnv .exit)) (now (seq .exit)) ⌝ }
+// The command that a file has outstanding was done well.
+pub fn complete(m: Mount, cnv: &mut [u64], seq: &mut [u64], kind: u64, number: u32) -> Outcome
+    ensures { λ r. ⌜ step (stateOf m (now (cnv .entry)) (now (seq .entry))) (Input.completion kind number Completion.good) ≡ stepOf r (now (cnv .exit)) (now (seq .exit)) ⌝ }
 {
-    end_command(m, cnv, seq, true, b"", false)
+    end_command(m, cnv, seq, kind, number, true, b"", false)
 }
 
-// The outstanding command failed.
-pub fn fail(m: Mount, cnv: &mut [u64], seq: &mut [u64], bytes: &[u8], given: bool) -> Outcome
-    ensures { λ r. ⌜ step (stateOf m (now (cnv .entry)) (now (seq .entry))) (Input.completion (completionOf given (now (bytes .entry)))) ≡ stepOf r (now (cnv .exit)) (now (seq .exit)) ⌝ }
+// The command that a file has outstanding failed.
+pub fn fail(
+    m: Mount,
+    cnv: &mut [u64],
+    seq: &mut [u64],
+    kind: u64,
+    number: u32,
+    bytes: &[u8],
+    given: bool,
+) -> Outcome
+    ensures { λ r. ⌜ step (stateOf m (now (cnv .entry)) (now (seq .entry))) (Input.completion kind number (completionOf given (now (bytes .entry)))) ≡ stepOf r (now (cnv .exit)) (now (seq .exit)) ⌝ }
 {
-    end_command(m, cnv, seq, false, bytes, given)
+    end_command(m, cnv, seq, kind, number, false, bytes, given)
 }

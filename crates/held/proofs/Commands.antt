@@ -3,7 +3,7 @@
 use Prim.Native.Nat.{ℕ, _+_, _-_, _≤_}
 use native.Mathlib.Omega.{arith}
 use mathlib.Core.Path.{_≡_, refl, sym}
-use mathlib.Core.Bool.{Bool, true, false, false≢true}
+use mathlib.Core.Bool.{true, false, false≢true}
 use borrow.Author.Tests.{eqb-false}
 use Rattle.types.specs.declared.Row.{Row}
 use Rattle.types.specs.declared.FileKind.{FileKind}
@@ -15,8 +15,8 @@ use Rattle.types.specs.declared.Answer.the-variants.{Issue}
 use Rattle.types.specs.Blocks.{bytesOf}
 use Rattle.types.specs.Commands.{movementOf, isRead}
 use Rattle.decision.specs.Decision.{fileCommand, readCount, answerOn}
-use Rattle.decision.proofs.Laws.{read-issued, write-issued, truncate-issued, flush-issued, dispatch-passed}
-use Rattle.held.specs.Held.{callFor, reissue, issuable}
+use Rattle.decision.proofs.Laws.{read-issued, write-issued, truncate-issued, flush-issued}
+use Rattle.held.specs.Held.{callFor, issuable}
 use Rattle.held.proofs.Issuable.{issuable-call}
 
 pub record InFile (r : Row) (c : Command) : Type 0 where
@@ -45,7 +45,6 @@ issued-in block k r kind.Reset o n c g = rw (← truncate-issued k r 0 c g .comm
 issued-in block k r kind.Finish o n c g = rw (← truncate-issued k r (r .capacity) c g .command) (whole-file _ r)
 issued-in block k r kind.Flush o n c g = rw (← flush-issued r c g .command) (whole-file _ r)
 
-pub issuable-in : (readonly : Bool) (block : ℕ) (k : FileKind) (r : Row) (c : Command) → issuable readonly block k r c ≡ true → InFile r c
-issuable-in readonly block k r c h =
-    issued-in block k r (c .kind) (c .address - bytesOf (r .start)) (c .length) c
-    (dispatch-passed readonly block k r (reissue r c) c (issuable-call readonly block k r c h) .1)
+pub issuable-in : (block : ℕ) (k : FileKind) (r : Row) (c : Command) → issuable block k r c ≡ true → InFile r c
+issuable-in block k r c h =
+    issued-in block k r (c .kind) (c .address - bytesOf (r .start)) (c .length) c (issuable-call block k r c h)

@@ -15,13 +15,14 @@ use Rattle.types.specs.declared.CommandKind.{CommandKind}
 use Rattle.types.specs.declared.CommandKind.the-variants as kind
 use Rattle.types.specs.declared.Answer.{Answer}
 use Rattle.types.specs.declared.Answer.the-variants.{Refused, Done, Issue}
+use Rattle.types.specs.declared.Outstanding.{Outstanding}
 use Rattle.types.specs.Blocks.{bytesOf}
 use Rattle.types.specs.Codes.{commandCode, commandFrom}
-use Rattle.types.specs.Commands.{isRead}
 use Rattle.types.proofs.CodeLaws.{command-back}
 use Rattle.types.proofs.Tests.{and-left, and-right}
-use Rattle.decision.specs.Decision.{changes, badTarget, commandOf, fileCommand, readCount, readRow, writeRow, truncateRow, flushRow, answerOn, dispatched}
-use Rattle.decision.proofs.Laws.{read-issued, read-issues, write-issued, truncate-issued, flush-issued, dispatch-passed, dispatch-passes, dispatch-refused}
+use Rattle.table.specs.Rows.{withOutstanding}
+use Rattle.decision.specs.Decision.{badTarget, commandOf, fileCommand, readCount, readChecks, readRow, writeChecks, writeRow, truncateRow, flushRow, answerOn}
+use Rattle.decision.proofs.Laws.{read-issued, read-issues, write-issued, truncate-issued, flush-issued}
 use Rattle.held.specs.Held.{sameCommand, issues, callFor, reissue, issuable}
 
 -- AN ANSWER ISSUES A COMMAND exactly where it is that command.
@@ -53,32 +54,30 @@ answer-issues (Refused x) c h = absurd (false≢true h)
 answer-issues (Done n) c h = absurd (false≢true h)
 answer-issues (Issue x) c h = ap Issue (same-eq x c h)
 
-module _ (readonly : Bool) (block : ℕ) (k : FileKind) (r : Row) where
+module _ (block : ℕ) (k : FileKind) (r : Row) where
   -- AN ISSUABLE COMMAND is the answer of a call on its row.
 
-  pub issuable-call : (c : Command) → issuable readonly block k r c ≡ true → dispatched readonly block k r (reissue r c) ≡ Issue c
+  pub issuable-call : (c : Command) → issuable block k r c ≡ true → answerOn block k r (reissue r c) ≡ Issue c
   unfolding issuable
-  issuable-call c h = answer-issues (dispatched readonly block k r (reissue r c)) c h
+  issuable-call c h = answer-issues (answerOn block k r (reissue r c)) c h
 
   -- A COMMAND THAT A CALL ISSUES is issuable.
 
   -- a command at an offset is issuable if the call made again issues it
-  recall : (j : CommandKind) (o n : ℕ) → readonly && changes (callFor r j o n) ≡ false
-      → answerOn block k r (callFor r j o n) ≡ Issue (commandOf j (r .start) o n)
-      → issuable readonly block k r (commandOf j (r .start) o n) ≡ true
+  recall : (j : CommandKind) (o n : ℕ) → answerOn block k r (callFor r j o n) ≡ Issue (commandOf j (r .start) o n)
+      → issuable block k r (commandOf j (r .start) o n) ≡ true
   unfolding issuable
-  recall j o n a h =
+  recall j o n h =
       let e : bytesOf (r .start) + o - bytesOf (r .start) ≡ o = omega arith in
-      issues-it (dispatched readonly block k r (callFor r j (bytesOf (r .start) + o - bytesOf (r .start)) n)) (commandOf j (r .start) o n)
-      (rw e (dispatch-passes readonly block k r (callFor r j o n) a ∙ h))
+      issues-it (answerOn block k r (callFor r j (bytesOf (r .start) + o - bytesOf (r .start)) n)) (commandOf j (r .start) o n) (rw e h)
 
-  read-complete : (o l : ℕ) (c : Command) → readonly && false ≡ false → readRow r o l ≡ Issue c → issuable readonly block k r c ≡ true
-  read-complete o l c a g =
+  read-complete : (o l : ℕ) (c : Command) → readRow r o l ≡ Issue c → issuable block k r c ≡ true
+  read-complete o l c g =
       let w = read-issued r o l c g in
       let n : ℕ = readCount (r .size) o l in
       let e : readCount (r .size) o n ≡ n = omega arith in
       rw (← w .command)
-      (recall kind.Read o n a
+      (recall kind.Read o n
       (read-issues r o n (commandOf kind.Read (r .start) o n)
       (record {
         checked = record { readable = w .checked .readable; fits = omega (arith, w .checked .fits) };
@@ -86,57 +85,54 @@ module _ (readonly : Bool) (block : ℕ) (k : FileKind) (r : Row) where
         command = rw e;
       })))
 
-  write-complete : (o l : ℕ) (c : Command) → readonly && true ≡ false → writeRow block k r o l ≡ Issue c → issuable readonly block k r c ≡ true
-  write-complete o l c a g =
+  write-complete : (o l : ℕ) (c : Command) → writeRow block k r o l ≡ Issue c → issuable block k r c ≡ true
+  write-complete o l c g =
       let w = write-issued block k r o l c g in
-      rw (← w .command) (recall kind.Write o l a (g ∙ ap Issue (sym (w .command))))
+      rw (← w .command) (recall kind.Write o l (g ∙ ap Issue (sym (w .command))))
 
-  flush-complete : (c : Command) → readonly && true ≡ false → flushRow r ≡ Issue c → issuable readonly block k r c ≡ true
-  flush-complete c a g =
+  flush-complete : (c : Command) → flushRow r ≡ Issue c → issuable block k r c ≡ true
+  flush-complete c g =
       let w = flush-issued r c g in
-      rw (← w .command) (recall kind.Flush 0 0 a (g ∙ ap Issue (sym (w .command))))
+      rw (← w .command) (recall kind.Flush 0 0 (g ∙ ap Issue (sym (w .command))))
 
   -- a target that is not refused, and is not 0, is the capacity
   good-target : (k : FileKind) (c t : ℕ) → badTarget k c t ≡ false → eqb t 0 ≡ false → t ≡ c
   good-target Conventional c t h e = absurd (false≢true (sym h))
   good-target Sequential c t h e = eqb-true t c (rw e at (not-false (eqb t 0 || eqb t c) h))
 
-  truncate-complete : (t : ℕ) (c : Command) → readonly && true ≡ false → truncateRow k r t ≡ Issue c → issuable readonly block k r c ≡ true
-  truncate-complete t c a g =
+  truncate-complete : (t : ℕ) (c : Command) → truncateRow k r t ≡ Issue c → issuable block k r c ≡ true
+  truncate-complete t c g =
       let w = truncate-issued k r t c g in
       by (eqb t 0) refl (w .good) (w .command)
     where
       by : (z : Bool) → eqb t 0 ≡ z → badTarget k (r .capacity) t ≡ false → fileCommand (cond z kind.Reset kind.Finish) r ≡ c
-          → issuable readonly block k r c ≡ true
-      by true e b w = rw (← w) (recall kind.Reset 0 0 a (rw (eqb-true t 0 e) at g ∙ ap Issue (sym w)))
-      by false e b w = rw (← w) (recall kind.Finish 0 0 a (rw (good-target k (r .capacity) t b e) at g ∙ ap Issue (sym w)))
+          → issuable block k r c ≡ true
+      by true e b w = rw (← w) (recall kind.Reset 0 0 (rw (eqb-true t 0 e) at g ∙ ap Issue (sym w)))
+      by false e b w = rw (← w) (recall kind.Finish 0 0 (rw (good-target k (r .capacity) t b e) at g ∙ ap Issue (sym w)))
 
-  pub issuable-complete : (x : Call) (c : Command) → dispatched readonly block k r x ≡ Issue c → issuable readonly block k r c ≡ true
-  issuable-complete x c h = let (a, g) = dispatch-passed readonly block k r x c h in by x a g
-    where
-      by : (x : Call) → readonly && changes x ≡ false → answerOn block k r x ≡ Issue c → issuable readonly block k r c ≡ true
-      by (Call.Read o l) a g = read-complete o l c a g
-      by (Call.Write o l) a g = write-complete o l c a g
-      by (Call.Truncate t) a g = truncate-complete t c a g
-      by Call.Flush a g = flush-complete c a g
+  pub issuable-complete : (x : Call) (c : Command) → answerOn block k r x ≡ Issue c → issuable block k r c ≡ true
+  issuable-complete (Call.Read o l) c g = read-complete o l c g
+  issuable-complete (Call.Write o l) c g = write-complete o l c g
+  issuable-complete (Call.Truncate t) c g = truncate-complete t c g
+  issuable-complete Call.Flush c g = flush-complete c g
 
--- ON A READ-ONLY MOUNT only a read is issued: the test by the command's kind.
+-- WHAT IS OUTSTANDING on the row makes no difference: "with row and mount as they are but nothing held".
+pub answer-on-held : (block : ℕ) (k : FileKind) (r : Row) (o : Outstanding) (x : Call) → answerOn block k (withOutstanding r o) x ≡ answerOn block k r x
+unfolding readRow readChecks writeRow writeChecks truncateRow flushRow
+answer-on-held block k r o (Call.Read a l) = refl
+answer-on-held block k r o (Call.Write a l) = refl
+answer-on-held block k r o (Call.Truncate t) = refl
+answer-on-held block k r o Call.Flush = refl
 
-changes-again : (r : Row) (j : CommandKind) (o n : ℕ) → changes (callFor r j o n) ≡ not (isRead j)
-changes-again r kind.Read o n = refl
-changes-again r kind.Write o n = refl
-changes-again r kind.Reset o n = refl
-changes-again r kind.Finish o n = refl
-changes-again r kind.Flush o n = refl
+again-same : (r : Row) (o : Outstanding) (j : CommandKind) (a l : ℕ) → callFor (withOutstanding r o) j a l ≡ callFor r j a l
+again-same r o kind.Read a l = refl
+again-same r o kind.Write a l = refl
+again-same r o kind.Reset a l = refl
+again-same r o kind.Finish a l = refl
+again-same r o kind.Flush a l = refl
 
-pub issues-barred : (readonly : Bool) (block : ℕ) (k : FileKind) (r : Row) (j : CommandKind) (o n : ℕ) (c : Command)
-    → not (readonly && not (isRead j)) && issues (answerOn block k r (callFor r j o n)) c ≡ issues (dispatched readonly block k r (callFor r j o n)) c
-issues-barred readonly block k r j o n c = by (readonly && not (isRead j)) refl
-  where
-    test : readonly && changes (callFor r j o n) ≡ readonly && not (isRead j)
-    test = ap (λ t. readonly && t) (changes-again r j o n)
-
-    by : (t : Bool) → readonly && not (isRead j) ≡ t
-        → not t && issues (answerOn block k r (callFor r j o n)) c ≡ issues (dispatched readonly block k r (callFor r j o n)) c
-    by true e = rw (dispatch-refused readonly block k r (callFor r j o n) (test ∙ e))
-    by false e = rw (dispatch-passes readonly block k r (callFor r j o n) (test ∙ e))
+pub issuable-held : (block : ℕ) (k : FileKind) (r : Row) (o : Outstanding) (c : Command) → issuable block k (withOutstanding r o) c ≡ issuable block k r c
+unfolding issuable
+issuable-held block k r o c =
+    let there = c .address - bytesOf (r .start) in
+    rw (again-same r o (c .kind) there (c .length), answer-on-held block k r o (callFor r (c .kind) there (c .length)))

@@ -22,7 +22,7 @@ use Rattle.types.specs.Commands.{movementOf}
 use Rattle.types.specs.Predicates.{isNone}
 use Rattle.types.proofs.Tests.{and-right, or-left, or-right}
 use Rattle.decision.specs.Decision.{unwritable, badTarget, misplaced, answerOn}
-use Rattle.decision.proofs.Laws.{read-issued, write-issued, truncate-issued, flush-issued, dispatch-passed}
+use Rattle.decision.proofs.Laws.{read-issued, write-issued, truncate-issued, flush-issued}
 use Rattle.held.specs.Held.{reissue, issuable}
 use Rattle.held.proofs.Issuable.{issuable-call}
 use Rattle.held.proofs.Commands.{InFile, issuable-in}
@@ -116,7 +116,5 @@ issued-tells block k r Call.Flush c at g =
       untruncated = λ s d. absurd (d (sym still));
     }
 
-pub issuable-tells : (readonly : Bool) (block : ℕ) (k : FileKind) (r : Row) (c : Command) → issuable readonly block k r c ≡ true → Issued block k r c
-issuable-tells readonly block k r c f =
-    issued-tells block k r (reissue r c) c (issuable-in readonly block k r c f)
-    (dispatch-passed readonly block k r (reissue r c) c (issuable-call readonly block k r c f) .1)
+pub issuable-tells : (block : ℕ) (k : FileKind) (r : Row) (c : Command) → issuable block k r c ≡ true → Issued block k r c
+issuable-tells block k r c f = issued-tells block k r (reissue r c) c (issuable-in block k r c f) (issuable-call block k r c f)

@@ -1,7 +1,8 @@
--- The held command of a completion: 8, and 10 for the mount, the row and the command itself.
+-- The held command of a completion. 02: "Completions check 10 (counts), 1, 8, 10 (row), 9." Here all but 9.
 use Prim.Native.Nat.{ℕ, _-_}
 use mathlib.Core.List.{List}
 use mathlib.Core.Bool.{Bool, false, cond, _&&_}
+use lib.ListN.{length}
 use lib.Dec.{eqb}
 use Rattle.types.specs.declared.Mount.{Mount}
 use Rattle.types.specs.declared.Row.{Row}
@@ -15,13 +16,17 @@ use Rattle.types.specs.declared.Call.{Call}
 use Rattle.types.specs.declared.Answer.{Answer}
 use Rattle.types.specs.declared.Answer.the-variants as answer
 use Rattle.types.specs.declared.Outstanding.{Outstanding}
-use Rattle.types.specs.declared.Outstanding.the-variants.{Idle, Busy}
+use Rattle.types.specs.declared.Outstanding.the-variants.{Idle, Busy, Unknown}
 use Rattle.types.specs.Blocks.{bytesOf}
 use Rattle.types.specs.Codes.{commandCode}
+use Rattle.table.specs.declared.Slot.{Slot}
+use Rattle.table.specs.Rows.{outstandingIn}
+use Rattle.checks.specs.declared.Lookup.{Lookup}
+use Rattle.checks.specs.declared.Lookup.the-variants as lookup
 use Rattle.checks.specs.declared.Checked.{Checked}
 use Rattle.checks.specs.declared.Checked.the-variants as checked
-use Rattle.checks.specs.Checks.{fileOf}
-use Rattle.decision.specs.Decision.{dispatched}
+use Rattle.checks.specs.Checks.{countsFit, lookupOf, soundSlot}
+use Rattle.decision.specs.Decision.{answerOn}
 use Rattle.held.specs.declared.Pending.{Pending}
 use Rattle.held.specs.declared.Pending.the-variants.{On, Refused}
 
@@ -49,25 +54,33 @@ callFor r kind.Flush offset length = Call.Flush
 abbrev pub reissue : Row → Command → Call
 reissue r c = callFor r (c .kind) (c .address - bytesOf (r .start)) (c .length)
 
--- some call on this row would issue the command, with the mount's read-only mark and block: the one that would have, made again
-unfoldable pub issuable : Bool → ℕ → FileKind → Row → Command → Bool
-issuable readonly block k r c = issues (dispatched readonly block k r (reissue r c)) c
+-- some call on this row would issue the command, with the mount's block: the one that would have, made again. 02: "10's test of a held command
+-- no longer looks at the read-only mark"
+unfoldable pub issuable : ℕ → FileKind → Row → Command → Bool
+issuable block k r c = issues (answerOn block k r (reissue r c)) c
 
 abbrev pub issuableOn : Mount → Held → Row → Bool
-issuableOn m h r = issuable (m .readonly) (m .volume .block) (h .kind) r (h .command)
+issuableOn m h r = issuable (m .volume .block) (h .kind) r (h .command)
 
--- ---- "Checks: 8, 10"
+-- ---- 02: "Completions check 10 (counts), 1, 8, 10 (row), 9."
 
--- 10, for the counts, for a file that isn't there, for its row, and for a command that no call on it would issue
+-- 10, for the row, and then for a command that no call on it would issue
 abbrev pub heldOn : Mount → Held → Checked → Pending
 heldOn m h (checked.Good r) = cond (issuableOn m h r) (On h r) (Refused refusal.Impossible)
 heldOn m h (checked.Refused x) = Refused refusal.Impossible
 
--- 8, "completion with nothing outstanding"
-abbrev pub pendingBy : Mount → List ℕ → List ℕ → Outstanding → Pending
-pendingBy m cnv seq Idle = Refused refusal.NothingOutstanding
-pendingBy m cnv seq (Busy h) = heldOn m h (fileOf (m .volume) cnv seq (h .kind) (h .number))
+-- 8, "completion with nothing outstanding", which is about the named file; a code that is no command's is outstanding, and then 10
+abbrev pub pendingBy : Mount → FileKind → ℕ → Checked → Outstanding → Pending
+pendingBy m k i file Idle = Refused refusal.NothingOutstanding
+pendingBy m k i file (Busy c) = heldOn m (record { kind = k; number = i; command = c }) file
+pendingBy m k i file Unknown = Refused refusal.Impossible
 
--- the held command with its row, or the refusal
-unfoldable pub pendingOf : Mount → List ℕ → List ℕ → Pending
-pendingOf m cnv seq = pendingBy m cnv seq (m .outstanding)
+-- 1, "no such file"
+abbrev pub pendingIn : Mount → FileKind → ℕ → Lookup → Pending
+pendingIn m k i (lookup.Found x) = pendingBy m k i (soundSlot (m .volume .block) k x) (outstandingIn x)
+pendingIn m k i lookup.Nothing = Refused refusal.NoFile
+
+-- the held command of file i of a kind with its row, or the refusal
+unfoldable pub pendingOf : Mount → List ℕ → List ℕ → FileKind → ℕ → Pending
+pendingOf m cnv seq k i =
+    cond (countsFit (m .volume) (length cnv) (length seq)) (pendingIn m k i (lookupOf (m .volume) cnv seq k i)) (Refused refusal.Impossible)

@@ -1,14 +1,17 @@
-// The held command of a completion: 8 and 10, which asks whether some call on its file would issue it.
+// The held command of a completion: 10 of the counts, 1, 8, and 10 of the row, which asks whether some call on it would issue the command.
 ghost use mathlib.Core.Path.{_≡_};
 ghost use mathlib.Core.Bool.{true};
 ghost use Prim.Native.Nat.{_+_, _-_, _/_, _≤_, _^_};
 ghost use Rattle.types.specs.Blocks.{sectorBytes, goodBlock, bytesOf};
+ghost use Rattle.table.specs.Rows.{outstandingIn};
+ghost use Rattle.checks.specs.Checks.{soundSlot};
 ghost use Rattle.checks.specs.Facts.{Ends};
 ghost use Rattle.decision.specs.Decision.{answerOn};
-ghost use Rattle.held.specs.Held.{sameCommand, issues, callFor, issuable, heldOn, pendingOf};
+ghost use Rattle.held.specs.Held.{sameCommand, issues, callFor, issuable, heldOn, pendingBy, pendingOf};
 ghost use Rattle.held.specs.Facts.{PendingTells};
 use checks::Checked;
 use checks::Lookup;
+use table::Slot;
 use types::Answer;
 use types::Command;
 use types::CommandKind;
@@ -76,16 +79,15 @@ fn answer_again(
     }
 }
 
-// Whether some call on this row would issue the command: the one that would have is made again. On a read-only mount only a read is.
-fn is_issuable(readonly: bool, block: u64, kind: FileKind, row: Row, c: Command) -> bool
+// Whether some call on this row would issue the command: the one that would have is made again. The read-only mark isn't looked at.
+fn is_issuable(block: u64, kind: FileKind, row: Row, c: Command) -> bool
     requires { ⌜ (goodBlock block ≡ true) × (row .start + row .capacity / sectorBytes ≤ 2 ^ 40) ⌝ }
-    ensures { λ r. ⌜ r ≡ issuable readonly block kind row c ⌝ }
+    ensures { λ r. ⌜ r ≡ issuable block kind row c ⌝ }
 {
     let command = c.kind;
     let offset = offset_from(row.start, c.address);
-    let barred = readonly & !types::commands::is_read(command);
     let again = answer_again(block, kind, row, command, offset, c.length);
-    !barred & issues_it(again, c)
+    issues_it(again, c)
 }
 
 fn held_on(m: Mount, h: Held, file: Checked) -> Pending
@@ -97,7 +99,7 @@ fn held_on(m: Mount, h: Held, file: Checked) -> Pending
     let v = m.volume;
     match file {
         Checked::Good(row) => {
-            if is_issuable(m.readonly, v.block, kind, row, command) {
+            if is_issuable(v.block, kind, row, command) {
                 Pending::On(h, row)
             } else {
                 Pending::Refused(Refusal::Impossible)
@@ -107,29 +109,44 @@ fn held_on(m: Mount, h: Held, file: Checked) -> Pending
     }
 }
 
-// Checks 8 and 10. One row is read.
-fn check_pending(m: Mount, cnv: &[u64], seq: &[u64]) -> Pending
-    ensures { λ r. ⌜ r ≡ pendingOf m (now (cnv .entry)) (now (seq .entry)) ⌝ }
+// Checks 8 and 10 of a file that was found: its row as its words say.
+fn slot_pending(m: Mount, kind: FileKind, number: u32, slot: Slot) -> Pending
+    requires { ⌜ goodBlock (m .volume .block) ≡ true ⌝ }
+    ensures { λ r. ⌜ r ≡ pendingBy m kind number (soundSlot (m .volume .block) kind slot) (outstandingIn slot) ⌝ }
 {
-    let outstanding = m.outstanding;
-    let Outstanding::Busy(h) = outstanding else {
-        return Pending::Refused(Refusal::NothingOutstanding);
-    };
+    let v = m.volume;
+    match table::outstanding_in(slot) {
+        Outstanding::Idle => Pending::Refused(Refusal::NothingOutstanding),
+        Outstanding::Busy(command) => {
+            let h = Held {
+                kind,
+                number,
+                command,
+            };
+            held_on(m, h, checks::sound_slot(v.block, kind, slot))
+        }
+        Outstanding::Unknown => Pending::Refused(Refusal::Impossible),
+    }
+}
+
+// Checks 10 of the counts, 1, 8, and 10 of the row. One row is read.
+fn check_pending(m: Mount, cnv: &[u64], seq: &[u64], kind: FileKind, number: u32) -> Pending
+    ensures { λ r. ⌜ r ≡ pendingOf m (now (cnv .entry)) (now (seq .entry)) kind number ⌝ }
+{
     let v = m.volume;
     if !checks::counts_fit(v, cnv.len(), seq.len()) {
         return Pending::Refused(Refusal::Impossible);
     }
-    let kind = h.kind;
-    let Lookup::Found(slot) = checks::lookup_of(v, cnv, seq, kind, h.number) else {
-        return Pending::Refused(Refusal::Impossible);
+    let Lookup::Found(slot) = checks::lookup_of(v, cnv, seq, kind, number) else {
+        return Pending::Refused(Refusal::NoFile);
     };
-    held_on(m, h, checks::sound_slot(v.block, kind, slot))
+    slot_pending(m, kind, number, slot)
 }
 
 // What the checks tell goes with their answer.
-pub fn find_pending(m: Mount, cnv: &[u64], seq: &[u64]) -> Pending
-    ensures { λ r. ⌜ r ≡ pendingOf m (now (cnv .entry)) (now (seq .entry)) ⌝ }
-    ensures { λ r. ⌜ PendingTells m (now (cnv .entry)) (now (seq .entry)) r ⌝ }
+pub fn find_pending(m: Mount, cnv: &[u64], seq: &[u64], kind: FileKind, number: u32) -> Pending
+    ensures { λ r. ⌜ r ≡ pendingOf m (now (cnv .entry)) (now (seq .entry)) kind number ⌝ }
+    ensures { λ r. ⌜ PendingTells m (now (cnv .entry)) (now (seq .entry)) kind number r ⌝ }
 {
-    check_pending(m, cnv, seq)
+    check_pending(m, cnv, seq, kind, number)
 }

@@ -8,7 +8,6 @@ use lib.ListN.{length, getD, drop, length-drop}
 use Rattle.types.specs.Blocks.{mostFiles}
 use Rattle.types.specs.declared.MountAnswer.{MountAnswer}
 use Rattle.types.specs.declared.MountAnswer.the-variants.{Refused, Mounted}
-use Rattle.types.specs.declared.Outstanding.the-variants.{Idle}
 use Rattle.types.specs.declared.ErrorPolicy.{ErrorPolicy}
 use Rattle.types.proofs.Volumes.{BoundedVolume}
 use Rattle.superblock.specs.declared.SuperBlock.{SuperBlock}
@@ -45,11 +44,6 @@ of-bounded (Mounted c s) block f p fields few =
       sixteen = fields .sixteen;
     }
 
-of-idle : (x : MountAnswer) (block : ℕ) (f : SuperBlock) (p : ErrorPolicy) → mountOf x block f p .outstanding ≡ Idle
-unfolding mountOf
-of-idle (Refused x) block f p = refl
-of-idle (Mounted c s) block f p = refl
-
 module _ (block : ℕ) (superblock options report cnv seq : List ℕ) where
   -- zone 0 is no file's, so there is one file less than there can be zones
   pub files-few : (c s : ℕ) → mountOutcome block superblock options report cnv seq .answer ≡ Mounted c s → (c ≤ mostFiles) × (s ≤ mostFiles)
@@ -60,10 +54,6 @@ module _ (block : ℕ) (superblock options report cnv seq : List ℕ) where
       let zs = drop 1 (zonesOf report) in
       let files : length zs ≤ mostFiles = omega (arith, length-drop 1 (zonesOf report), zones-length report) in
       (omega (arith, t .cnvs, cnvs-few (aggregated superblock) zs), omega (arith, t .seqs, seqs-few zs))
-
-  pub mount-idle : mountOutcome block superblock options report cnv seq .mount .outstanding ≡ Idle
-  unfolding mountOutcome
-  mount-idle = of-idle (mountAnswer block superblock options report cnv seq) block _ _
 
   pub mount-bounded : ((k : ℕ) → getD superblock k 0 < 256)
       → BoundedVolume (mountOutcome block superblock options report cnv seq .mount .volume)

@@ -6,7 +6,6 @@ use mathlib.Core.Path.{_≡_, refl, _∙_}
 use Prim.Native.Nat.{ℕ}
 use lib.ListN.{length}
 use Rattle.types.specs.declared.Row.{Row}
-use Rattle.types.specs.declared.Outstanding.the-variants.{Idle}
 use Rattle.types.specs.declared.MountAnswer.{MountAnswer}
 use Rattle.types.specs.declared.MountAnswer.the-variants.{Mounted}
 use Rattle.types.specs.Numbers.{mountNumber}
@@ -60,7 +59,6 @@ module _ (block : ℕ) (superblock options report cnv seq : List ℕ) where
             uuid = fields .uuid;
           };
           readonly = false;
-          outstanding = Idle;
         };
         cnv = fill cnv cnvs;
         seq = fill seq seqs;

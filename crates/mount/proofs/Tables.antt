@@ -3,13 +3,13 @@
 use mathlib.Core.Path.{_≡_, refl, ap, _∙_, sym}
 use mathlib.Core.List.{List, [], _∷_, _++_}
 use Prim.Native.Nat.{ℕ, zero, suc, _+_, _*_, _≤_, _<_}
-use native.Mathlib.Nat.{zero-add}
+use native.Mathlib.Nat.{zero-add, add-zero, add-suc, suc-add}
 use native.Mathlib.Omega.{arith}
-use lib.ListN.{length, drop, getD}
+use lib.ListN.{length, drop, getD, set}
 use lib.Seq.{sets, sets-eq}
 use Rattle.types.specs.declared.Row.{Row}
 use Rattle.table.specs.declared.Slot.the-variants.{Good}
-use Rattle.table.specs.Rows.{rowWidth, rowsLent, rowAt, setRow}
+use Rattle.table.specs.Rows.{rowWidth, rowsLent, rowWords, rowAt, setRow}
 use Rattle.table.proofs.Laws.{setRow-length, rowAt-same, rowAt-other}
 use Rattle.mount.specs.Fill.{rowsWords, fill}
 
@@ -22,12 +22,20 @@ pub fill-next : (t : List ℕ) (i : ℕ) (r : Row) (rs : List Row) → fillFrom 
 unfolding fillFrom
 fill-next t i r rs = refl
 
+-- words stored after others
+sets-join : (vs ws t : List ℕ) (i : ℕ) → sets (sets t i vs) (i + length vs) ws ≡ sets t i (vs ++ ws)
+sets-join [] ws t i = ap (λ (n : ℕ). sets t n ws) (add-zero i)
+sets-join (v ∷ vs) ws t i =
+    ap (λ (n : ℕ). sets (sets (set t i v) (suc i) vs) n ws) (add-suc i (length vs) ∙ sym (suc-add i (length vs))) ∙ sets-join vs ws (set t i v) (suc i)
+
 fill-sets : (t : List ℕ) (i : ℕ) (rows : List Row) → fillFrom t i rows ≡ sets t (i * rowWidth) (rowsWords rows)
 unfolding fillFrom rowsWords setRow
 fill-sets t i [] = refl
 fill-sets t i (r ∷ rs) =
-    let next : (i + 1) * 5 ≡ suc (suc (suc (suc (suc (i * 5))))) = omega arith in
-    fill-sets (setRow t i r) (i + 1) rs ∙ rw next
+    let next : (i + 1) * rowWidth ≡ i * rowWidth + length (rowWords r) = omega arith in
+    fill-sets (setRow t i r) (i + 1) rs
+    ∙ ap (λ (n : ℕ). sets (setRow t i r) n (rowsWords rs)) next
+    ∙ sets-join (rowWords r) (rowsWords rs) t (i * rowWidth)
 
 words-length : (rows : List Row) → length (rowsWords rows) ≡ length rows * rowWidth
 unfolding rowsWords

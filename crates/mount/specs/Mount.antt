@@ -13,7 +13,6 @@ use Rattle.types.specs.declared.Verdict.the-variants as verdict
 use Rattle.types.specs.declared.Row.{Row}
 use Rattle.types.specs.declared.ErrorPolicy.{ErrorPolicy}
 use Rattle.types.specs.declared.ErrorPolicy.the-variants.{RemountRo}
-use Rattle.types.specs.declared.Outstanding.the-variants.{Idle}
 use Rattle.types.specs.declared.Mount.{Mount}
 use Rattle.types.specs.declared.MountAnswer.{MountAnswer}
 use Rattle.types.specs.declared.MountAnswer.the-variants.{Refused, Mounted}
@@ -74,7 +73,7 @@ abbrev pub policyOf : Options → ErrorPolicy
 policyOf (options.Policy p) = p
 policyOf options.Bad = RemountRo
 
--- the mount value: nothing is outstanding, and it is not read-only
+-- the mount value, which is not read-only; its rows have nothing outstanding
 unfoldable pub mountOf : MountAnswer → ℕ → SuperBlock → ErrorPolicy → Mount
 mountOf (Refused x) block fields policy = emptyMount
 mountOf (Mounted cnvs seqs) block fields policy =
@@ -90,7 +89,6 @@ mountOf (Mounted cnvs seqs) block fields policy =
         uuid = fields .uuid;
       };
       readonly = false;
-      outstanding = Idle;
     }
 
 -- a refused mount changes nothing

@@ -21,7 +21,6 @@ use types::ErrorPolicy;
 use types::Mount;
 use types::MountAnswer;
 use types::MountOutcome;
-use types::Outstanding;
 use types::Refusal;
 use types::Verdict;
 use types::Volume;
@@ -176,7 +175,6 @@ fn mount_of(answer: MountAnswer, block: u64, fields: SuperBlock, policy: ErrorPo
             Mount {
                 volume,
                 readonly: false,
-                outstanding: Outstanding::Idle,
             }
         }
     }

@@ -4,20 +4,16 @@ ghost use mathlib.Core.Bool.{true};
 ghost use Prim.Native.Nat.{_+_, _%_, _≤_, _<_};
 ghost use lib.ListN.{length};
 ghost use lib.Seq.{sets};
-ghost use mathlib.Core.List.{[], _∷_, _++_};
+ghost use mathlib.Core.List.{_++_};
 ghost use Rattle.wire.specs.Le.{le, little};
 ghost use Rattle.answer_words.specs.Answers.{written};
-ghost use Rattle.mount_words.specs.Words.{mountLength, volumeWords, heldWords, outstandingAt, outstandingWords, mountWords, word, goodVolume, goodState, possible, shortOf, volumeFrom, heldFrom, outstandingFrom, mountFrom, withOutstanding, withState};
-use types::Command;
-use types::Held;
+ghost use Rattle.mount_words.specs.Words.{mountLength, volumeWords, mountWords, word, goodVolume, goodState, possible, shortOf, volumeFrom, mountFrom, withState};
 use types::Mount;
-use types::Outstanding;
 use types::Volume;
 use types::codes;
-use types::predicates;
 
 // The words of a mount value.
-pub const MOUNT_WORDS: usize = 16;
+pub const MOUNT_WORDS: usize = 10;
 
 // Where its fields stand: what the mount fixes, and then its state.
 const BLOCK: usize = 0;
@@ -39,18 +35,6 @@ const UUID_LOW: usize = 7;
 const UUID_HIGH: usize = 8;
 
 const READONLY: usize = 9;
-
-const BUSY: usize = 10;
-
-const KIND: usize = 11;
-
-const NUMBER: usize = 12;
-
-const COMMAND: usize = 13;
-
-const ADDRESS: usize = 14;
-
-const LENGTH: usize = 15;
 
 // 2 ^ 32: numbers of 32 bits are below it.
 const SHORT: u64 = 4294967296;
@@ -74,11 +58,7 @@ fn good_state(w: &[u64]) -> bool
     requires { ⌜ mountLength ≤ length (now w) ⌝ }
     ensures { λ r. ⌜ r ≡ goodState (now (w .entry)) ⌝ }
 {
-    (w[READONLY] < FLAGS)
-        & (w[BUSY] < FLAGS)
-        & (w[KIND] < codes::KINDS)
-        & (w[NUMBER] < SHORT)
-        & (w[COMMAND] < codes::COMMANDS)
+    w[READONLY] < FLAGS
 }
 
 // The words hold a mount value. Any words are taken.
@@ -132,47 +112,15 @@ fn volume_from(w: &[u64]) -> Volume
     }
 }
 
-fn held_from(w: &[u64]) -> Held
-    requires { ⌜ mountLength ≤ length (now w) ⌝ }
-    ensures { λ r. ⌜ r ≡ heldFrom (now (w .entry)) ⌝ }
-{
-    let kind = codes::kind_from(w[KIND]);
-    let number = short_at(w, NUMBER);
-    let code = codes::command_from(w[COMMAND]);
-    let command = Command {
-        kind: code,
-        address: w[ADDRESS],
-        length: w[LENGTH],
-    };
-    Held {
-        kind,
-        number,
-        command,
-    }
-}
-
-fn outstanding_from(busy: u64, held: Held) -> Outstanding
-    ensures { λ r. ⌜ r ≡ outstandingFrom busy held ⌝ }
-{
-    if busy != 0 {
-        Outstanding::Busy(held)
-    } else {
-        Outstanding::Idle
-    }
-}
-
 // The mount value that possible words hold.
 pub fn mount_from(w: &[u64]) -> Mount
     requires { ⌜ mountLength ≤ length (now w) ⌝ }
     ensures { λ r. ⌜ r ≡ mountFrom (now (w .entry)) ⌝ }
 {
     let volume = volume_from(w);
-    let held = held_from(w);
-    let outstanding = outstanding_from(w[BUSY], held);
     Mount {
         volume,
         readonly: w[READONLY] != 0,
-        outstanding,
     }
 }
 
@@ -204,76 +152,12 @@ fn put_volume(w: &mut [u64], v: Volume)
     w[UUID_HIGH] = high;
 }
 
-// Puts the words from `BUSY` on.
-fn put_rest(
-    w: &mut [u64],
-    busy: u64,
-    kind: u64,
-    number: u64,
-    command: u64,
-    address: u64,
-    bytes: u64,
-)
-    requires { ⌜ mountLength ≤ length (now w) ⌝ }
-    ensures { λ _. ⌜ now (w .exit) ≡ sets (now (w .entry)) outstandingAt (busy ∷ kind ∷ number ∷ command ∷ address ∷ bytes ∷ []) ⌝ }
-{
-    w[BUSY] = busy;
-    w[KIND] = kind;
-    w[NUMBER] = number;
-    w[COMMAND] = command;
-    w[ADDRESS] = address;
-    w[LENGTH] = bytes;
-}
-
-fn put_held(w: &mut [u64], held: Held)
-    requires { ⌜ mountLength ≤ length (now w) ⌝ }
-    ensures { λ _. ⌜ now (w .exit) ≡ sets (now (w .entry)) outstandingAt (1 ∷ heldWords held) ⌝ }
-{
-    let kind = held.kind;
-    let command = held.command;
-    let operation = command.kind;
-    let kind_word = codes::kind_code(kind);
-    let command_word = codes::command_code(operation);
-    put_rest(
-        w,
-        1,
-        kind_word,
-        held.number as u64,
-        command_word,
-        command.address,
-        command.length,
-    );
-}
-
-fn put_outstanding(w: &mut [u64], o: Outstanding)
-    requires { ⌜ mountLength ≤ length (now w) ⌝ }
-    ensures { λ _. ⌜ now (w .exit) ≡ sets (now (w .entry)) outstandingAt (outstandingWords o) ⌝ }
-{
-    match o {
-        Outstanding::Idle => put_rest(w, 0, 0, 0, 0, 0, 0),
-        Outstanding::Busy(held) => put_held(w, held),
-    }
-}
-
-// Puts what is outstanding into words that hold a mount value. "All but 7 change nothing": where nothing is outstanding, before and after, no
-// word is written, so that what stands there stays.
-fn change_outstanding(w: &mut [u64], o: Outstanding)
-    requires { ⌜ mountLength ≤ length (now w) ⌝ }
-    ensures { λ _. ⌜ now (w .exit) ≡ withOutstanding (now (w .entry)) o ⌝ }
-{
-    if predicates::is_busy(o) | (w[BUSY] != 0) {
-        put_outstanding(w, o);
-    }
-}
-
-// Puts the state of a mount value into words that hold one.
+// Puts the state of a mount value into its word; those of what the mount fixes stand as they were.
 pub fn put_state(w: &mut [u64], m: Mount)
     requires { ⌜ mountLength ≤ length (now w) ⌝ }
     ensures { λ _. ⌜ now (w .exit) ≡ withState (now (w .entry)) m ⌝ }
 {
-    let o = m.outstanding;
     w[READONLY] = codes::flag_code(m.readonly);
-    change_outstanding(w, o);
 }
 
 // Puts a mount value into the words, whatever stands there.
@@ -282,8 +166,6 @@ pub fn put_mount(w: &mut [u64], m: Mount)
     ensures { λ _. ⌜ now (w .exit) ≡ written (now (w .entry)) (mountWords m) ⌝ }
 {
     let v = m.volume;
-    let o = m.outstanding;
     put_volume(w, v);
-    w[READONLY] = codes::flag_code(m.readonly);
-    put_outstanding(w, o);
+    put_state(w, m);
 }

@@ -14,11 +14,16 @@ use Rattle.types.specs.declared.Condition.{Condition}
 use Rattle.types.specs.declared.Condition.the-variants as condition
 use Rattle.types.specs.declared.Access.{Access}
 use Rattle.types.specs.declared.Access.the-variants as access
+use Rattle.types.specs.declared.Command.{Command}
+use Rattle.types.specs.declared.CommandKind.{CommandKind}
+use Rattle.types.specs.declared.CommandKind.the-variants as command
+use Rattle.types.specs.declared.Outstanding.{Outstanding}
+use Rattle.types.specs.declared.Outstanding.the-variants.{Idle, Busy, Unknown}
 use Rattle.types.specs.Codes.{conditionCode, accessCode}
 use Rattle.table.specs.declared.ConditionRead.the-variants as cr
 use Rattle.table.specs.declared.AccessRead.the-variants as ar
 use Rattle.table.specs.declared.Slot.the-variants.{Good}
-use Rattle.table.specs.Rows.{rowWidth, rowsLent, rowWords, conditionRead, accessRead, wordAt, rowAt, setRow}
+use Rattle.table.specs.Rows.{rowWidth, rowsLent, heldCode, heldAddress, heldLength, rowWords, conditionRead, accessRead, heldRead, wordAt, rowAt, setRow}
 
 -- WORDS STORED IN A ROW, of any number
 
@@ -54,20 +59,35 @@ access-back access.Nothing = refl
 access-back access.Read = refl
 access-back access.Write = refl
 
+command-held : (k : CommandKind) (a n : ℕ) → let c : Command = record { kind = k; address = a; length = n } in heldRead (heldCode (Busy c)) a n ≡ Busy c
+command-held command.Read a n = refl
+command-held command.Write a n = refl
+command-held command.Reset a n = refl
+command-held command.Finish a n = refl
+command-held command.Flush a n = refl
+
+pub held-back : (o : Outstanding) → heldRead (heldCode o) (heldAddress o) (heldLength o) ≡ o
+held-back Idle = refl
+held-back (Busy c) = command-held (c .kind) (c .address) (c .length)
+held-back Unknown = refl
+
 -- the length stays
 pub setRow-length : (t : List ℕ) (i : ℕ) (r : Row) → length (setRow t i r) ≡ length t
 unfolding setRow
 setRow-length t i r = length-sets t (i * rowWidth) (rowWords r)
 
 -- a row stored word by word
-pub stored : (t : List ℕ) (i : ℕ) (r : Row) → setRow t i r ≡ set (set (set (set (set t (i * rowWidth) (r .start)) (i * rowWidth + 1) (r .capacity)) (i * rowWidth + 2) (r .size)) (i * rowWidth + 3) (conditionCode (r .condition))) (i * rowWidth + 4) (accessCode (r .access))
+pub stored : (t : List ℕ) (i : ℕ) (r : Row) → setRow t i r ≡ set (set (set (set (set (set (set (set t (i * rowWidth) (r .start)) (i * rowWidth + 1) (r .capacity)) (i * rowWidth + 2) (r .size)) (i * rowWidth + 3) (conditionCode (r .condition))) (i * rowWidth + 4) (accessCode (r .access))) (i * rowWidth + 5) (heldCode (r .outstanding))) (i * rowWidth + 6) (heldAddress (r .outstanding))) (i * rowWidth + 7) (heldLength (r .outstanding))
 unfolding setRow
 stored t i r =
     let one : suc (i * rowWidth) ≡ i * rowWidth + 1 = omega arith in
     let two : suc (i * rowWidth + 1) ≡ i * rowWidth + 2 = omega arith in
     let three : suc (i * rowWidth + 2) ≡ i * rowWidth + 3 = omega arith in
     let four : suc (i * rowWidth + 3) ≡ i * rowWidth + 4 = omega arith in
-    rw (one, two, three, four)
+    let five : suc (i * rowWidth + 4) ≡ i * rowWidth + 5 = omega arith in
+    let six : suc (i * rowWidth + 5) ≡ i * rowWidth + 6 = omega arith in
+    let seven : suc (i * rowWidth + 6) ≡ i * rowWidth + 7 = omega arith in
+    rw (one, two, three, four, five, six, seven)
 
 -- a word that is none of the row's, of another row or left over, is as before
 pub word-outside : (t : List ℕ) (i j : ℕ) (r : Row) → (j / rowWidth ≡ i → ⊥) → getD (setRow t i r) j 0 ≡ getD t j 0
@@ -77,11 +97,11 @@ word-outside t i j r h = sets-outside (rowWords r) t (i * rowWidth) j (λ g. els
     elsewhere : i * rowWidth ≤ j → i * rowWidth + rowWidth ≤ j
     elsewhere g = let d : j / rowWidth ≢ i = h in omega arith
 
--- a row is its five words
+-- a row is its words
 slot-of-words : (t u : List ℕ) (i j : ℕ) → ((k : ℕ) → k < rowWidth → wordAt t i k ≡ wordAt u j k) → rowAt t i ≡ rowAt u j
 unfolding rowAt
 slot-of-words t u i j same =
-    rw (same 0 (lit< tt), same 1 (lit< tt), same 2 (lit< tt), same 3 (lit< tt), same 4 (lit< tt))
+    rw (same 0 (lit< tt), same 1 (lit< tt), same 2 (lit< tt), same 3 (lit< tt), same 4 (lit< tt), same 5 (lit< tt), same 6 (lit< tt), same 7 (lit< tt))
 
 -- another row is as before
 pub rowAt-other : (t : List ℕ) (i j : ℕ) (r : Row) → i ≢ j → rowAt (setRow t i r) j ≡ rowAt t j
@@ -91,7 +111,7 @@ rowAt-other t i j r d = slot-of-words (setRow t i r) t j j (λ k h. word-outside
 pub rowAt-same : (t : List ℕ) (i : ℕ) (r : Row) → i < rowsLent (length t) → rowAt (setRow t i r) i ≡ Good r
 unfolding rowAt setRow
 rowAt-same t i r h =
-    rw (word 0 (lit< tt), word 1 (lit< tt), word 2 (lit< tt), word 3 (lit< tt), word 4 (lit< tt), condition-back, access-back)
+    rw (word 0 (lit< tt), word 1 (lit< tt), word 2 (lit< tt), word 3 (lit< tt), word 4 (lit< tt), word 5 (lit< tt), word 6 (lit< tt), word 7 (lit< tt), condition-back, access-back, held-back)
   where
     word : (k : ℕ) → k < rowWidth → getD (sets t (i * rowWidth) (rowWords r)) (i * rowWidth + k) 0 ≡ getD (rowWords r) k 0
     word k g = sets-inside (rowWords r) t (i * rowWidth) k g (omega arith)

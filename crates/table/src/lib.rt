@@ -1,19 +1,22 @@
-// A lent table: `ROW_WORDS` words to a row, the start in sectors, the capacity and the size in bytes, and the codes of condition and access.
+// A lent table: `ROW_WORDS` words to a row, the start in sectors, the capacity and the size in bytes, the codes of condition and access, and
+// the held command: 1 + its code, or 0 for none, its address and its length in bytes.
 // Everything that takes a row apart or puts one together is here.
 ghost use mathlib.Core.Path.{_≡_};
 ghost use Prim.Native.Nat.{_<_};
 ghost use lib.ListN.{length};
 ghost use Rattle.types.specs.declared.FileKind.the-variants as files;
 ghost use Rattle.table.specs.Facts.{StoreFits};
-ghost use Rattle.table.specs.Rows.{rowsLent, conditionRead, accessRead, slotWith, slotOf, rowAt, setRow, stored, healthyRow, offlineRow, withSize, recoveredTo};
+ghost use Rattle.table.specs.Rows.{rowsLent, heldCode, heldAddress, heldLength, conditionRead, accessRead, heldRead, slotWith, slotOf, outstandingIn, rowAt, setRow, stored, healthyRow, offlineRow, withSize, recoveredTo, withOutstanding, holding, cleared};
 use types::Access;
+use types::Command;
 use types::Condition;
 use types::FileKind;
+use types::Outstanding;
 use types::Row;
 use types::Store;
 
 // The words of a row, and where they stand behind the first, its start.
-pub const ROW_WORDS: usize = 5;
+pub const ROW_WORDS: usize = 8;
 
 const CAPACITY: usize = 1;
 
@@ -23,10 +26,16 @@ const CONDITION: usize = 3;
 
 const ACCESS: usize = 4;
 
-// What a row's words say: a row, or that a code is none of the codes.
+const HELD: usize = 5;
+
+const HELD_ADDRESS: usize = 6;
+
+const HELD_LENGTH: usize = 7;
+
+// What a row's words say: a row, or that the code of its condition or access is none of the codes, and what is outstanding there.
 pub enum Slot {
     Good(Row),
-    Impossible,
+    Impossible(Outstanding),
 }
 
 // What the word of a condition says.
@@ -70,20 +79,40 @@ fn access_read(code: u64) -> AccessRead
     }
 }
 
+// What the three words of a held command say. Where nothing is held the last two mean nothing.
+fn held_read(code: u64, address: u64, length: u64) -> Outstanding
+    ensures { λ r. ⌜ r ≡ heldRead code address length ⌝ }
+{
+    if code == 0 {
+        return Outstanding::Idle;
+    }
+    if code <= types::codes::COMMANDS {
+        let kind = types::codes::command_from(code - 1);
+        Outstanding::Busy(Command {
+            kind,
+            address,
+            length,
+        })
+    } else {
+        Outstanding::Unknown
+    }
+}
+
 fn slot_with(
     start: u64,
     capacity: u64,
     size: u64,
     condition: ConditionRead,
     access: AccessRead,
+    outstanding: Outstanding,
 ) -> Slot
-    ensures { λ r. ⌜ r ≡ slotWith start capacity size condition access ⌝ }
+    ensures { λ r. ⌜ r ≡ slotWith start capacity size condition access outstanding ⌝ }
 {
     let ConditionRead::Is(c) = condition else {
-        return Slot::Impossible;
+        return Slot::Impossible(outstanding);
     };
     let AccessRead::Is(a) = access else {
-        return Slot::Impossible;
+        return Slot::Impossible(outstanding);
     };
     Slot::Good(Row {
         start,
@@ -91,11 +120,19 @@ fn slot_with(
         size,
         condition: c,
         access: a,
+        outstanding,
     })
 }
 
-fn slot_of(start: u64, capacity: u64, size: u64, condition: u64, access: u64) -> Slot
-    ensures { λ r. ⌜ r ≡ slotOf start capacity size condition access ⌝ }
+fn slot_of(
+    start: u64,
+    capacity: u64,
+    size: u64,
+    condition: u64,
+    access: u64,
+    outstanding: Outstanding,
+) -> Slot
+    ensures { λ r. ⌜ r ≡ slotOf start capacity size condition access outstanding ⌝ }
 {
     slot_with(
         start,
@@ -103,7 +140,18 @@ fn slot_of(start: u64, capacity: u64, size: u64, condition: u64, access: u64) ->
         size,
         condition_read(condition),
         access_read(access),
+        outstanding,
     )
+}
+
+// What is outstanding, of a row that is one or isn't.
+pub fn outstanding_in(slot: Slot) -> Outstanding
+    ensures { λ r. ⌜ r ≡ outstandingIn slot ⌝ }
+{
+    match slot {
+        Slot::Good(row) => row.outstanding,
+        Slot::Impossible(outstanding) => outstanding,
+    }
 }
 
 // The row of number `i`.
@@ -112,13 +160,49 @@ pub fn row_at(t: &[u64], i: usize) -> Slot
     ensures { λ r. ⌜ r ≡ rowAt (now (t .entry)) i ⌝ }
 {
     let b = i * ROW_WORDS;
+    let outstanding = held_read(t[b + HELD], t[b + HELD_ADDRESS], t[b + HELD_LENGTH]);
     slot_of(
         t[b],
         t[b + CAPACITY],
         t[b + SIZE],
         t[b + CONDITION],
         t[b + ACCESS],
+        outstanding,
     )
+}
+
+// The words of what is outstanding: its code, its address and its length.
+fn held_code(o: Outstanding) -> u64
+    ensures { λ r. ⌜ r ≡ heldCode o ⌝ }
+{
+    match o {
+        Outstanding::Idle => 0,
+        Outstanding::Busy(c) => {
+            let kind = c.kind;
+            1 + types::codes::command_code(kind)
+        }
+        Outstanding::Unknown => 1 + types::codes::COMMANDS,
+    }
+}
+
+fn held_address(o: Outstanding) -> u64
+    ensures { λ r. ⌜ r ≡ heldAddress o ⌝ }
+{
+    match o {
+        Outstanding::Idle => 0,
+        Outstanding::Busy(c) => c.address,
+        Outstanding::Unknown => 0,
+    }
+}
+
+fn held_length(o: Outstanding) -> u64
+    ensures { λ r. ⌜ r ≡ heldLength o ⌝ }
+{
+    match o {
+        Outstanding::Idle => 0,
+        Outstanding::Busy(c) => c.length,
+        Outstanding::Unknown => 0,
+    }
 }
 
 // Stores a row at number `i`.
@@ -129,13 +213,20 @@ pub fn put_row(t: &mut [u64], i: usize, row: Row)
     let b = i * ROW_WORDS;
     let c = row.condition;
     let a = row.access;
+    let o = row.outstanding;
     let condition = types::codes::condition_code(c);
     let access = types::codes::access_code(a);
+    let held = held_code(o);
+    let address = held_address(o);
+    let length = held_length(o);
     t[b] = row.start;
     t[b + CAPACITY] = row.capacity;
     t[b + SIZE] = row.size;
     t[b + CONDITION] = condition;
     t[b + ACCESS] = access;
+    t[b + HELD] = held;
+    t[b + HELD_ADDRESS] = address;
+    t[b + HELD_LENGTH] = length;
 }
 
 // Stores what a call or a completion says: nothing, or a row in the table of its kind.
@@ -163,6 +254,7 @@ pub fn healthy_row(start: u64, capacity: u64, size: u64) -> Row
         size,
         condition: Condition::Healthy,
         access: Access::Write,
+        outstanding: Outstanding::Idle,
     }
 }
 
@@ -176,6 +268,7 @@ pub fn offline_row(start: u64, capacity: u64) -> Row
         size: 0,
         condition: Condition::Offline,
         access: Access::Nothing,
+        outstanding: Outstanding::Idle,
     }
 }
 
@@ -185,12 +278,14 @@ pub fn with_size(row: Row, size: u64) -> Row
 {
     let condition = row.condition;
     let access = row.access;
+    let outstanding = row.outstanding;
     Row {
         start: row.start,
         capacity: row.capacity,
         size,
         condition,
         access,
+        outstanding,
     }
 }
 
@@ -198,11 +293,43 @@ pub fn with_size(row: Row, size: u64) -> Row
 pub fn recovered_to(row: Row, size: u64, condition: Condition, access: Access) -> Row
     ensures { λ r. ⌜ r ≡ recoveredTo row size condition access ⌝ }
 {
+    let outstanding = row.outstanding;
     Row {
         start: row.start,
         capacity: row.capacity,
         size,
         condition,
         access,
+        outstanding,
     }
+}
+
+// The row with something else outstanding.
+fn with_outstanding(row: Row, outstanding: Outstanding) -> Row
+    ensures { λ r. ⌜ r ≡ withOutstanding row outstanding ⌝ }
+{
+    let condition = row.condition;
+    let access = row.access;
+    Row {
+        start: row.start,
+        capacity: row.capacity,
+        size: row.size,
+        condition,
+        access,
+        outstanding,
+    }
+}
+
+// The row with a command outstanding.
+pub fn holding(row: Row, command: Command) -> Row
+    ensures { λ r. ⌜ r ≡ holding row command ⌝ }
+{
+    with_outstanding(row, Outstanding::Busy(command))
+}
+
+// The row with nothing outstanding.
+pub fn cleared(row: Row) -> Row
+    ensures { λ r. ⌜ r ≡ cleared row ⌝ }
+{
+    with_outstanding(row, Outstanding::Idle)
 }

@@ -29,8 +29,8 @@ textOf b r = textFrom (length b) b r
 -- a record after which the tape goes on isn't empty
 onward-by : (b : List ℕ) (at : ℕ) (s : State) (x : Record) → turnOf b at s x .rest .more ≡ true → at < turnOf b at s x .rest .next
 onward-by b at s (OnFile kind number x) e = omega arith
-onward-by b at s (End true) e = omega arith
-onward-by b at s (End false) e = omega arith
+onward-by b at s (End kind number true) e = omega arith
+onward-by b at s (End kind number false) e = omega arith
 onward-by b at s Broken e = absurd (false≢true e)
 
 pub onward : (b : List ℕ) (at : ℕ) (s : State) → turnAt b at s .rest .more ≡ true → at < turnAt b at s .rest .next

@@ -17,7 +17,7 @@ use Rattle.tape_records.specs.declared.Mark.{Mark}
 use Rattle.tape_records.specs.declared.Mark.the-variants as mark
 use Rattle.tape_records.specs.declared.Record.{Record}
 use Rattle.tape_records.specs.declared.Record.the-variants.{OnFile, End, Broken}
-use Rattle.tape_records.specs.Records.{holds, markBytes, failedBytes, callBytes, markAt, onFileAt, endRecord, recordBytes, recordOf, markedAt, recordAt}
+use Rattle.tape_records.specs.Records.{holds, markBytes, namedBytes, failedBytes, callBytes, markAt, kindAt, numberAt, onFileAt, endAt, recordBytes, recordOf, markedAt, recordAt}
 use Rattle.engine.specs.Engine.{State}
 use Rattle.tape_turns.specs.Turns.{Turn, turn, turnOf, turnAt}
 use Rattle.tape.specs.Blocks.{longestRecord}
@@ -26,7 +26,7 @@ use Rattle.tape.specs.Blocks.{longestRecord}
 pub record Alike (b : List ℕ) (at : ℕ) (c : List ℕ) (there : ℕ) : Type 0 where
   pub byte : (i : ℕ) → i < longestRecord → getD b (at + i) 0 ≡ getD c (there + i) 0
   pub long : (n : ℕ) → n ≤ longestRecord → holds n b at ≡ holds n c there
-  pub zone : take zoneBytes (drop (at + markBytes) b) ≡ take zoneBytes (drop (there + markBytes) c)
+  pub zone : take zoneBytes (drop (at + namedBytes) b) ≡ take zoneBytes (drop (there + namedBytes) c)
 
 -- ---- the record there
 
@@ -51,16 +51,26 @@ module _ {b : List ℕ} {at : ℕ} {c : List ℕ} {there : ℕ} (a : Alike b at 
       let first : getD b at 0 ≡ getD c there 0 = ap (λ i. getD b i 0) (sym (add-zero at)) ∙ a .byte 0 (omega arith) ∙ ap (λ i. getD c i 0) (add-zero there) in
       rw (a .long markBytes (omega arith), first, a .byte 1 (omega arith))
 
+  -- the file that it names
+  kind-alike : kindAt b at ≡ kindAt c there
+  kind-alike = a .byte 2 (omega arith)
+
+  file-number-alike : numberAt b at ≡ numberAt c there
+  file-number-alike = number 4 3 (omega arith)
+
   on-file-alike : (x : Call) → onFileAt b at x ≡ onFileAt c there x
-  on-file-alike x = rw (a .byte 2 (omega arith), number 4 3 (omega arith))
+  on-file-alike x = rw (kind-alike, file-number-alike)
+
+  end-alike : (done : Bool) → endAt b at done ≡ endAt c there done
+  end-alike done = rw (kind-alike, file-number-alike)
 
   record-alike-by : (m : Mark) → recordOf m b at ≡ recordOf m c there
   record-alike-by mark.Read = rw (number 8 7 (omega arith), number 8 15 (omega arith)) (on-file-alike _)
   record-alike-by mark.Write = rw (number 8 7 (omega arith), number 8 15 (omega arith)) (on-file-alike _)
   record-alike-by mark.Truncate = rw (number 8 15 (omega arith)) (on-file-alike _)
   record-alike-by mark.Flush = on-file-alike call.Flush
-  record-alike-by mark.Good = refl
-  record-alike-by mark.Failed = refl
+  record-alike-by mark.Good = end-alike true
+  record-alike-by mark.Failed = end-alike false
   record-alike-by mark.Unknown = refl
 
   no-longer : (m : Mark) → recordBytes m ≤ longestRecord
@@ -79,10 +89,6 @@ module _ {b : List ℕ} {at : ℕ} {c : List ℕ} {there : ℕ} (a : Alike b at 
   unfolding recordAt
   record-alike = rw mark-alike (marked-alike (markAt c there))
 
-  end-alike : (done : Bool) → endRecord done b at ≡ endRecord done c there
-  end-alike true = refl
-  end-alike false = a .zone
-
 -- ---- its turn
 
 -- the turn of a record that stands so many bytes further on
@@ -94,8 +100,8 @@ nowhere t = ap (λ (n : ℕ). turn (t .line) (t .rest .more) n (t .rest .state))
 
 turn-alike-by : {b c : List ℕ} {at there : ℕ} (k : ℕ) → at ≡ k + there → Alike b at c there → (s : State) (x : Record) → turnOf b at s x ≡ ahead k (turnOf c there s x)
 turn-alike-by {at = at} {there} k e a s (OnFile kind n x) = let p : at + callBytes ≡ k + (there + callBytes) = omega arith in rw p
-turn-alike-by {at = at} {there} k e a s (End true) = let p : at + markBytes ≡ k + (there + markBytes) = omega arith in rw p
-turn-alike-by {at = at} {there} k e a s (End false) = let p : at + failedBytes ≡ k + (there + failedBytes) = omega arith in rw (p, a .zone)
+turn-alike-by {at = at} {there} k e a s (End kind n true) = let p : at + namedBytes ≡ k + (there + namedBytes) = omega arith in rw p
+turn-alike-by {at = at} {there} k e a s (End kind n false) = let p : at + failedBytes ≡ k + (there + failedBytes) = omega arith in rw (p, a .zone)
 turn-alike-by k e a s Broken = rw e
 
 turn-alike : {b c : List ℕ} {at there : ℕ} (k : ℕ) → at ≡ k + there → Alike b at c there → (s : State) → turnAt b at s ≡ ahead k (turnAt c there s)
@@ -108,14 +114,14 @@ follows : (b f : List ℕ) (at : ℕ) → at + longestRecord ≤ length b → Al
 follows b f at h = record {
   byte = λ i k. List·getD-append b f 0 (at + i) (omega arith);
   long = λ n k. leb-same (at + n) (length (b ++ f)) (at + n) (length b) (λ _. omega arith) (λ _. omega (arith, length-append b f));
-  zone = ap (take zoneBytes) (drop-append-le (at + markBytes) b f (omega arith)) ∙ take-append-le zoneBytes (drop (at + markBytes) b) f (omega (arith, length-drop (at + markBytes) b));
+  zone = ap (take zoneBytes) (drop-append-le (at + namedBytes) b f (omega arith)) ∙ take-append-le zoneBytes (drop (at + namedBytes) b) f (omega (arith, length-drop (at + namedBytes) b));
 }
 
 before : (b : List ℕ) (k at : ℕ) → k ≤ length b → Alike b (k + at) (drop k b) at
 before b k at h = record {
   byte = λ i p. ap (λ j. getD b j 0) (add-assoc k at i) ∙ sym (getD-drop k b (at + i) 0);
   long = λ n p. leb-same (k + at + n) (length b) (at + n) (length (drop k b)) (λ q. omega (arith, length-drop k b)) (λ q. omega (arith, length-drop k b));
-  zone = ap (λ j. take zoneBytes (drop j b)) (add-assoc k at markBytes) ∙ ap (take zoneBytes) (sym (drop-drop (at + markBytes) k b));
+  zone = ap (λ j. take zoneBytes (drop j b)) (add-assoc k at namedBytes) ∙ ap (take zoneBytes) (sym (drop-drop (at + namedBytes) k b));
 }
 
 -- a record that is whole is the same, whatever follows

@@ -12,6 +12,6 @@ valuesRoom = 3 * fieldBytes
 abbrev pub answerRoom : ℕ
 answerRoom = fieldBytes + valuesRoom
 
--- no line is longer: a mark, an answer and the line feed
+-- no line is longer: a mark, a file, an answer and the line feed
 abbrev pub lineRoom : ℕ
-lineRoom = 96
+lineRoom = 136

@@ -54,6 +54,10 @@ callFields (Refused r) = fields (refusalNumber r ∷ refusalValues r)
 callFields (Done count) = field 0 ++ doneFields count
 callFields (Issue c) = field 0 ++ commandFields c
 
+-- the file of a completion, before the rest. 02: "the tape's OK and NO carry kind and number before the rest, printed too"
+abbrev pub fileFields : ℕ → ℕ → List ℕ
+fileFields kind number = fields (kind ∷ number ∷ [])
+
 -- "answer, then .. for OK 0 the count, for NO 7 the new size"; 02: for NO 9 the reason
 abbrev pub completionFields : Answer → List ℕ
 completionFields a = fields (answerNumber a ∷ answerValues a)
@@ -71,8 +75,8 @@ line text = text ++ (10 ∷ [])
 unfoldable pub callLine : Call → Answer → List ℕ
 callLine x a = line (markText (lettersOf (callMark x)) ++ callFields a)
 
-unfoldable pub completionLine : Mark → Answer → List ℕ
-completionLine m a = line (markText (lettersOf m) ++ completionFields a)
+unfoldable pub completionLine : Mark → ℕ → ℕ → Answer → List ℕ
+completionLine m kind number a = line (markText (lettersOf m) ++ fileFields kind number ++ completionFields a)
 
 unfoldable pub mountLine : MountAnswer → List ℕ
 mountLine a = line (markText mountLetters ++ mountFields a)

@@ -23,7 +23,7 @@ use types::Refusal;
 use types::Values;
 
 // No line is longer.
-pub const LINE_ROOM: usize = 96;
+pub const LINE_ROOM: usize = 136;
 
 // The number of a record that is unknown, misplaced or cut.
 const BROKEN: u64 = 40;
@@ -154,7 +154,7 @@ pub fn put_call_line(out: &mut [u8], at: usize, x: Call, a: Answer) -> usize
     put_byte(out, end, b'\n')
 }
 
-// What a completion's line says after its mark.
+// What a completion's line says after its file.
 fn put_completion_answer(out: &mut [u8], at: usize, a: Answer) -> usize
     requires { ⌜ at + answerRoom ≤ length (now out) ⌝ }
     ensures { λ r. ⌜ Put (now (out .entry)) (now (out .exit)) at r (completionFields a) ⌝ }
@@ -172,13 +172,21 @@ fn put_completion_answer(out: &mut [u8], at: usize, a: Answer) -> usize
     }
 }
 
-// The line of a completion with this mark.
-pub fn put_completion_line(out: &mut [u8], at: usize, m: Mark, a: Answer) -> usize
+// The line of a completion with this mark, of the file of this kind and number.
+pub fn put_completion_line(
+    out: &mut [u8],
+    at: usize,
+    m: Mark,
+    kind: u8,
+    number: u32,
+    a: Answer,
+) -> usize
     requires { ⌜ at + lineRoom ≤ length (now out) ⌝ }
-    ensures { λ r. ⌜ Put (now (out .entry)) (now (out .exit)) at r (completionLine m a) ⌝ }
+    ensures { λ r. ⌜ Put (now (out .entry)) (now (out .exit)) at r (completionLine m kind number a) ⌝ }
     ensures { λ r. ⌜ r ≤ at + lineRoom ⌝ }
 {
-    let next = put_letters(out, at, letters_of(m));
+    let file = put_letters(out, at, letters_of(m));
+    let next = put_two_fields(out, file, kind as u64, number as u64);
     let end = put_completion_answer(out, next, a);
     put_byte(out, end, b'\n')
 }

@@ -11,7 +11,7 @@ use Rattle.tape_records.specs.Records.{callBytes, endBytes, tapeZones, r
 -- the bytes of a record stand at its place
 abbrev pub Stands : Record → List ℕ → ℕ → Type 0
 Stands (OnFile kind number x) b at = at + callBytes ≤ length b
-Stands (End done) b at = at + endBytes done ≤ length b
+Stands (End kind number done) b at = at + endBytes done ≤ length b
 Stands Broken b at = Unit
 
 -- no report of a tape is longer

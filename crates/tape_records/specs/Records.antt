@@ -65,12 +65,24 @@ markAt b at = cond (holds markBytes b at) (markOf (lettersAt b at)) mark.Unknown
 
 -- ---- the records from `MO` on
 
--- "kind byte 0 cnv or 1 seq, u32 number, u64 offset, u64 length", after the mark
+-- the file that a record names, after its mark: "kind byte 0 cnv or 1 seq, u32 number". Calls and completions name theirs alike.
+-- 02: "the tape's OK and NO carry kind and number before the rest"
+abbrev pub kindAt : List ℕ → ℕ → ℕ
+kindAt b at = getD b (at + 2) 0
+
+abbrev pub numberAt : List ℕ → ℕ → ℕ
+numberAt b at = le 4 b (at + 3)
+
+-- the mark and the file: where the rest of a record starts
+abbrev pub namedBytes : ℕ
+namedBytes = markBytes + 5
+
+-- a call's rest: "u64 offset, u64 length"
 abbrev pub callBytes : ℕ
-callBytes = markBytes + 21
+callBytes = namedBytes + 16
 
 abbrev pub onFileAt : List ℕ → ℕ → Call → Record
-onFileAt b at x = OnFile (getD b (at + 2) 0) (le 4 b (at + 3)) x
+onFileAt b at x = OnFile (kindAt b at) (numberAt b at) x
 
 abbrev pub offsetAt : List ℕ → ℕ → ℕ
 offsetAt b at = le 8 b (at + 7)
@@ -80,18 +92,21 @@ lengthAt b at = le 8 b (at + 15)
 
 -- "`NO` with 64 bytes"
 abbrev pub failedBytes : ℕ
-failedBytes = markBytes + zoneBytes
+failedBytes = namedBytes + zoneBytes
 
 -- the end of a command, that it was done or that it failed: its mark, and how long its record is
 abbrev pub endMark : Bool → Mark
 endMark done = cond done mark.Good mark.Failed
 
 abbrev pub endBytes : Bool → ℕ
-endBytes done = cond done markBytes failedBytes
+endBytes done = cond done namedBytes failedBytes
 
--- what follows its mark: nothing, or the zone's record
+abbrev pub endAt : List ℕ → ℕ → Bool → Record
+endAt b at done = End (kindAt b at) (numberAt b at) done
+
+-- its rest: nothing, or the zone's record
 abbrev pub endRecord : Bool → List ℕ → ℕ → List ℕ
-endRecord done b at = take (endBytes done - markBytes) (drop (at + markBytes) b)
+endRecord done b at = take (endBytes done - namedBytes) (drop (at + namedBytes) b)
 
 -- how long the record of a mark is
 abbrev pub recordBytes : Mark → ℕ
@@ -99,8 +114,8 @@ recordBytes mark.Read = callBytes
 recordBytes mark.Write = callBytes
 recordBytes mark.Truncate = callBytes
 recordBytes mark.Flush = callBytes
-recordBytes mark.Good = markBytes
-recordBytes mark.Failed = failedBytes
+recordBytes mark.Good = endBytes true
+recordBytes mark.Failed = endBytes false
 recordBytes mark.Unknown = markBytes
 
 -- and what it says; "TR's size is in length; unused fields ignored"
@@ -109,8 +124,8 @@ recordOf mark.Read b at = onFileAt b at (call.Read (offsetAt b at) (lengthAt b a
 recordOf mark.Write b at = onFileAt b at (call.Write (offsetAt b at) (lengthAt b at))
 recordOf mark.Truncate b at = onFileAt b at (call.Truncate (lengthAt b at))
 recordOf mark.Flush b at = onFileAt b at call.Flush
-recordOf mark.Good b at = End true
-recordOf mark.Failed b at = End false
+recordOf mark.Good b at = endAt b at true
+recordOf mark.Failed b at = endAt b at false
 recordOf mark.Unknown b at = Broken
 
 abbrev pub markedAt : Mark → List ℕ → ℕ → Record

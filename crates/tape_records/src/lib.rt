@@ -4,7 +4,7 @@ ghost use mathlib.Core.Bool.{true};
 ghost use Prim.Native.Nat.{_+_, _≤_};
 ghost use lib.ListN.{length};
 ghost use Rattle.report.specs.Report.{headerBytes};
-ghost use Rattle.tape_records.specs.Records.{holds, markBytes, pair, lettersOf, sameLetters, pick, markOf, lettersAt, markAt, endMark, endBytes, callBytes, onFileAt, offsetAt, lengthAt, endRecord, recordBytes, recordOf, recordAt, reportStart, reportLength, mountPlace, mountBytes, runPlace, stands, startsWell, mountStands, opens, blockOf, superBytes, reportBytes, optionBytes};
+ghost use Rattle.tape_records.specs.Records.{holds, markBytes, pair, lettersOf, sameLetters, pick, markOf, lettersAt, markAt, kindAt, numberAt, namedBytes, callBytes, onFileAt, offsetAt, lengthAt, endMark, endBytes, endAt, endRecord, recordBytes, recordOf, recordAt, reportStart, reportLength, mountPlace, mountBytes, runPlace, stands, startsWell, mountStands, opens, blockOf, superBytes, reportBytes, optionBytes};
 ghost use Rattle.tape_records.specs.Facts.{Stands, longestReport, Opened};
 use report::HEADER_BYTES;
 use superblock::SUPER_BYTES;
@@ -18,19 +18,22 @@ pub const TAPE_FILES: usize = 1022;
 
 const MARK_BYTES: usize = 2;
 
-// A call's record: where its fields stand, and its length.
+// The file that a call or the end of a command names: where its kind and number stand, and where the rest of the record starts.
 const KIND_AT: usize = 2;
 
 const NUMBER_AT: usize = 3;
 
+const NAMED_BYTES: usize = 7;
+
+// A call's record: where its other fields stand, and its length.
 const OFFSET_AT: usize = 7;
 
 const LENGTH_AT: usize = 15;
 
 pub const CALL_BYTES: usize = 23;
 
-// The record of a failed command, the longest after `MO`: a zone's record follows its mark.
-pub const FAILED_BYTES: usize = MARK_BYTES + ZONE_BYTES;
+// The record of a failed command, the longest after `MO`: a zone's record follows the file.
+pub const FAILED_BYTES: usize = NAMED_BYTES + ZONE_BYTES;
 
 // The first four records: `SB` stands after `BK` and its two bytes, `ZR` after `SB` and its super block, `MO` after the report.
 const SUPER_PLACE: usize = MARK_BYTES + 2;
@@ -65,8 +68,9 @@ pub enum Mark {
 pub enum Record {
     // A call: the byte of the file's kind, its number, and the call.
     OnFile(u8, u32, Call),
-    // The outstanding command was done well, or it failed: then its zone's record follows the mark.
-    End(bool),
+    // The end of a command: the byte of its file's kind, the file's number, and whether the command was done well. If it failed, its zone's record
+    // follows.
+    End(u8, u32, bool),
     // Unknown, misplaced or cut.
     Broken,
 }
@@ -159,17 +163,17 @@ pub fn end_mark(done: bool) -> Mark
 
 pub fn end_bytes(done: bool) -> usize
     ensures { λ r. ⌜ r ≡ endBytes done ⌝ }
-    ensures { λ r. ⌜ markBytes ≤ r ⌝ }
+    ensures { λ r. ⌜ namedBytes ≤ r ⌝ }
 {
-    if done { MARK_BYTES } else { FAILED_BYTES }
+    if done { NAMED_BYTES } else { FAILED_BYTES }
 }
 
-// What follows its mark: nothing, or the zone's record.
+// What follows its file: nothing, or the zone's record.
 pub fn end_record(b: &[u8], at: usize, done: bool) -> &[u8]
     requires { ⌜ at + endBytes done ≤ length (now b) ⌝ }
     ensures { λ r. ⌜ now r ≡ endRecord done (now (b .entry)) at ⌝ }
 {
-    let from = at + MARK_BYTES;
+    let from = at + NAMED_BYTES;
     let end = at + end_bytes(done);
     &b[from..end]
 }
@@ -183,10 +187,25 @@ fn record_bytes(m: Mark) -> usize
         Mark::Write => CALL_BYTES,
         Mark::Truncate => CALL_BYTES,
         Mark::Flush => CALL_BYTES,
-        Mark::Good => MARK_BYTES,
+        Mark::Good => NAMED_BYTES,
         Mark::Failed => FAILED_BYTES,
         Mark::Unknown => MARK_BYTES,
     }
+}
+
+// The file that a record names.
+fn kind_at(b: &[u8], at: usize) -> u8
+    requires { ⌜ at + namedBytes ≤ length (now b) ⌝ }
+    ensures { λ r. ⌜ r ≡ kindAt (now (b .entry)) at ⌝ }
+{
+    b[at + KIND_AT]
+}
+
+fn number_at(b: &[u8], at: usize) -> u32
+    requires { ⌜ at + namedBytes ≤ length (now b) ⌝ }
+    ensures { λ r. ⌜ r ≡ numberAt (now (b .entry)) at ⌝ }
+{
+    wire::u32_at(b, at + NUMBER_AT)
 }
 
 fn on_file_at(b: &[u8], at: usize, x: Call) -> Record
@@ -194,7 +213,15 @@ fn on_file_at(b: &[u8], at: usize, x: Call) -> Record
     ensures { λ r. ⌜ r ≡ onFileAt (now (b .entry)) at x ⌝ }
     ensures { λ r. ⌜ Stands r (now (b .entry)) at ⌝ }
 {
-    Record::OnFile(b[at + KIND_AT], wire::u32_at(b, at + NUMBER_AT), x)
+    Record::OnFile(kind_at(b, at), number_at(b, at), x)
+}
+
+fn end_at(b: &[u8], at: usize, done: bool) -> Record
+    requires { ⌜ at + endBytes done ≤ length (now b) ⌝ }
+    ensures { λ r. ⌜ r ≡ endAt (now (b .entry)) at done ⌝ }
+    ensures { λ r. ⌜ Stands r (now (b .entry)) at ⌝ }
+{
+    Record::End(kind_at(b, at), number_at(b, at), done)
 }
 
 fn offset_at(b: &[u8], at: usize) -> u64
@@ -222,8 +249,8 @@ fn record_of(m: Mark, b: &[u8], at: usize) -> Record
         Mark::Write => on_file_at(b, at, Call::Write(offset_at(b, at), length_at(b, at))),
         Mark::Truncate => on_file_at(b, at, Call::Truncate(length_at(b, at))),
         Mark::Flush => on_file_at(b, at, Call::Flush),
-        Mark::Good => Record::End(true),
-        Mark::Failed => Record::End(false),
+        Mark::Good => end_at(b, at, true),
+        Mark::Failed => end_at(b, at, false),
         Mark::Unknown => Record::Broken,
     }
 }

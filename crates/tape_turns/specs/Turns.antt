@@ -38,19 +38,20 @@ brokenTurn at s = turn brokenLine false at s
 abbrev pub callTurn : ℕ → Call → Step → Turn
 callTurn next x t = turn (callLine x (t .reply)) true next (t .state)
 
-abbrev pub completionTurn : ℕ → Mark → Step → Turn
-completionTurn next m t = turn (completionLine m (t .reply)) true next (t .state)
+abbrev pub completionTurn : ℕ → Mark → ℕ → ℕ → Step → Turn
+completionTurn next m kind number t = turn (completionLine m kind number (t .reply)) true next (t .state)
 
 -- that the command was done, or "`NO` with 64 bytes (capacity always given)"
 abbrev pub completionAt : List ℕ → ℕ → Bool → Completion
 completionAt b at done = completionBy done true (endRecord done b at)
 
-abbrev pub endTurn : List ℕ → ℕ → State → Bool → Turn
-endTurn b at s done = completionTurn (at + endBytes done) (endMark done) (step s (completion (completionAt b at done)))
+abbrev pub endTurn : List ℕ → ℕ → State → ℕ → ℕ → Bool → Turn
+endTurn b at s kind number done =
+    completionTurn (at + endBytes done) (endMark done) kind number (step s (completion kind number (completionAt b at done)))
 
 abbrev pub turnOf : List ℕ → ℕ → State → Record → Turn
 turnOf b at s (OnFile kind number x) = callTurn (at + callBytes) x (step s (call kind number x))
-turnOf b at s (End done) = endTurn b at s done
+turnOf b at s (End kind number done) = endTurn b at s kind number done
 turnOf b at s Broken = brokenTurn at s
 
 unfoldable pub turnAt : List ℕ → ℕ → State → Turn

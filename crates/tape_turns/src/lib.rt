@@ -29,8 +29,8 @@ pub struct Turned {
 // The turn of a call. The next record stands at `next`.
 fn call_turn(
     m: Mount,
-    cnv: &[u64],
-    seq: &[u64],
+    cnv: &mut [u64],
+    seq: &mut [u64],
     kind: u8,
     number: u32,
     x: Call,
@@ -39,7 +39,7 @@ fn call_turn(
     to: usize,
 ) -> Turned
     requires { ⌜ to + lineRoom ≤ length (now out) ⌝ }
-    ensures { λ r. ⌜ Takes (callTurn next x (step (stateOf m (now (cnv .entry)) (now (seq .entry))) (Input.call kind number x))) (now (out .entry)) (now (out .exit)) to r (now (cnv .entry)) (now (seq .entry)) ⌝ }
+    ensures { λ r. ⌜ Takes (callTurn next x (step (stateOf m (now (cnv .entry)) (now (seq .entry))) (Input.call kind number x))) (now (out .entry)) (now (out .exit)) to r (now (cnv .exit)) (now (seq .exit)) ⌝ }
 {
     let o = engine::call(m, cnv, seq, kind as u64, number, x);
     let answer = o.answer;
@@ -67,10 +67,12 @@ fn broken_turn(at: usize, m: Mount, out: &mut [u8], to: usize) -> Turned
     }
 }
 
-// The turn of the end of a command, that it was done or that it failed. A record on a tape always states a capacity.
+// The turn of the end of a file's command, that it was done or that it failed. A record on a tape always states a capacity.
 fn end_turn(
     b: &[u8],
     at: usize,
+    kind: u8,
+    number: u32,
     done: bool,
     m: Mount,
     cnv: &mut [u64],
@@ -79,15 +81,15 @@ fn end_turn(
     to: usize,
 ) -> Turned
     requires { ⌜ (at + endBytes done ≤ length (now b)) × (to + lineRoom ≤ length (now out)) ⌝ }
-    ensures { λ r. ⌜ Takes (endTurn (now (b .entry)) at (stateOf m (now (cnv .entry)) (now (seq .entry))) done) (now (out .entry)) (now (out .exit)) to r (now (cnv .exit)) (now (seq .exit)) ⌝ }
+    ensures { λ r. ⌜ Takes (endTurn (now (b .entry)) at (stateOf m (now (cnv .entry)) (now (seq .entry))) kind number done) (now (out .entry)) (now (out .exit)) to r (now (cnv .exit)) (now (seq .exit)) ⌝ }
 {
     let next = at + tape_records::end_bytes(done);
     let record = tape_records::end_record(b, at, done);
     let mark = tape_records::end_mark(done);
-    let o = engine::end_command(m, cnv, seq, done, record, true);
+    let o = engine::end_command(m, cnv, seq, kind as u64, number, done, record, true);
     let answer = o.answer;
     let mount = o.mount;
-    let end = tape_lines::put_completion_line(out, to, mark, answer);
+    let end = tape_lines::put_completion_line(out, to, mark, kind, number, answer);
     Turned {
         to: end,
         more: true,
@@ -112,19 +114,11 @@ pub fn take_turn(
     let found = tape_records::record_at(b, at);
     match found {
         Record::OnFile(kind, number, x) => {
-            call_turn(
-                m,
-                &cnv[..],
-                &seq[..],
-                kind,
-                number,
-                x,
-                at + CALL_BYTES,
-                out,
-                to,
-            )
+            call_turn(m, cnv, seq, kind, number, x, at + CALL_BYTES, out, to)
         }
-        Record::End(done) => end_turn(b, at, done, m, cnv, seq, out, to),
+        Record::End(kind, number, done) => {
+            end_turn(b, at, kind, number, done, m, cnv, seq, out, to)
+        }
         Record::Broken => broken_turn(at, m, out, to),
     }
 }

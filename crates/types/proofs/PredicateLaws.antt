@@ -7,7 +7,7 @@ use Rattle.types.specs.declared.FileKind.the-variants.{Conventional, Seq
 use Rattle.types.specs.declared.Access.{Access}
 use Rattle.types.specs.declared.Access.the-variants as access
 use Rattle.types.specs.declared.Outstanding.{Outstanding}
-use Rattle.types.specs.declared.Outstanding.the-variants.{Idle, Busy}
+use Rattle.types.specs.declared.Outstanding.the-variants.{Idle, Busy, Unknown}
 use Rattle.types.specs.Predicates.{isConventional, isNone, isBusy}
 
 pub none-is : (a : Access) → isNone a ≡ true → a ≡ access.Nothing
@@ -27,3 +27,4 @@ conventional-is Sequential h = absurd (false≢true h)
 pub idle-is : (o : Outstanding) → isBusy o ≡ false → o ≡ Idle
 idle-is Idle h = refl
 idle-is (Busy x) h = absurd (false≢true (sym h))
+idle-is Unknown h = absurd (false≢true (sym h))

@@ -64,7 +64,11 @@ commandCode command.Reset = 2
 commandCode command.Finish = 3
 commandCode command.Flush = 4
 
--- and back, of a number below 5
+-- how many commands there are
+abbrev pub commands : ℕ
+commands = 5
+
+-- and back, of a number below that
 abbrev pub commandFrom : ℕ → CommandKind
 commandFrom n =
     cond (eqb n 0) command.Read

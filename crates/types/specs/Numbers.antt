@@ -36,7 +36,7 @@ withTwo number first second = record { number = number; values = Two first secon
 abbrev pub refusalCode : Refusal → RefusalCode
 -- "no such file or name"
 refusalCode NoFile = plain 1
--- "a command is outstanding"
+-- "a command is outstanding"; 02: "Number 2 is now about the named file"
 refusalCode Busy = plain 2
 -- "the mount is read-only"
 refusalCode ReadOnlyMount = plain 3
@@ -48,7 +48,7 @@ refusalCode BeyondCapacity = plain 5
 refusalCode Misplaced = plain 6
 -- "the disk failed it (completion digested)", "for NO 7 the new size"
 refusalCode (Failed size) = withValue 7 size
--- "completion with nothing outstanding"
+-- "completion with nothing outstanding"; 02: "8 and the completion name a file"
 refusalCode NothingOutstanding = plain 8
 -- "failed completion's zone record doesn't fit"; 02: "Answers 29 and 9 carry it on", the reason
 refusalCode (BadRecord fault) = withValue 9 (faultCode fault)

@@ -7,7 +7,7 @@ use Rattle.types.specs.declared.Condition.the-variants as condition
 use Rattle.types.specs.declared.Access.{Access}
 use Rattle.types.specs.declared.Access.the-variants as access
 use Rattle.types.specs.declared.Outstanding.{Outstanding}
-use Rattle.types.specs.declared.Outstanding.the-variants.{Idle, Busy}
+use Rattle.types.specs.declared.Outstanding.the-variants.{Idle, Busy, Unknown}
 
 -- "a means b"
 abbrev pub means : Bool → Bool → Bool
@@ -44,7 +44,8 @@ isWrite access.Nothing = false
 isWrite access.Read = false
 isWrite access.Write = true
 
--- "a command is outstanding"
+-- "a command is outstanding", whatever it is: "calls don't examine the held command"
 abbrev pub isBusy : Outstanding → Bool
 isBusy Idle = false
-isBusy (Busy h) = true
+isBusy (Busy c) = true
+isBusy Unknown = true

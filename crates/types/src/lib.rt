@@ -3,7 +3,7 @@ pub mod answers; // what each answer is in numbers; a chain of checks
 pub mod codes; // the number of each kind, condition, access, policy and command, and back; of a zone's fault
 pub mod commands; // what a command moves, and whether it is a read
 pub mod effects; // what a call or a completion does where nothing is stored
-pub mod mounts; // the empty mount value, and what calls and completions change of one
+pub mod mounts; // the empty mount value, and what completions change of one
 pub mod predicates; // tests of a kind, a condition, an access, and of what is outstanding
 pub mod units; // sectors, blocks, and the limits of disks and mounts
 
@@ -34,15 +34,6 @@ pub enum ErrorPolicy {
     Repair,
 }
 
-// A file: its first sector, and its capacity and size in bytes.
-pub struct Row {
-    pub start: u64,
-    pub capacity: u64,
-    pub size: u64,
-    pub condition: Condition,
-    pub access: Access,
-}
-
 pub enum CommandKind {
     Read,
     Write,
@@ -68,6 +59,25 @@ pub struct Command {
     pub length: u64,
 }
 
+// What is outstanding on a file: nothing, an issued command, or a code that is no command's. The last is never stored: it is what the words of
+// a lent table may say, and a completion then answers 10.
+pub enum Outstanding {
+    Idle,
+    Busy(Command),
+    Unknown,
+}
+
+// A file: the one command that it may have outstanding, its first sector, and its capacity and size in bytes. What is outstanding comes first, so that
+// it has the same place in a `table::Slot` that is no row: else each read of a row packs it into bytes.
+pub struct Row {
+    pub outstanding: Outstanding,
+    pub start: u64,
+    pub capacity: u64,
+    pub size: u64,
+    pub condition: Condition,
+    pub access: Access,
+}
+
 // A call on a file, with its arguments: offset and length, or the size wanted.
 pub enum Call {
     Read(u64, u64),
@@ -83,11 +93,6 @@ pub struct Held {
     pub command: Command,
 }
 
-pub enum Outstanding {
-    Idle,
-    Busy(Held),
-}
-
 // What a mount fixes for good. `conventional` and `sequential` count the files of each kind.
 pub struct Volume {
     pub block: u64,
@@ -100,11 +105,10 @@ pub struct Volume {
     pub uuid: [u8; 16],
 }
 
-// A mount: what it fixes, and what calls and completions change.
+// A mount: what it fixes, and its read-only mark, which a completion may set.
 pub struct Mount {
     pub volume: Volume,
     pub readonly: bool,
-    pub outstanding: Outstanding,
 }
 
 // What is wrong with a zone, by the test that it fails first, in the order of the tests. The last two are for the record of a failed

@@ -1,10 +1,8 @@
-// The empty mount value, and what calls and completions change of a mount value.
+// The empty mount value, and what completions change of a mount value.
 ghost use mathlib.Core.Path.{_≡_};
-ghost use Rattle.types.specs.Mounts.{emptyMount, holding, cleared, readOnly};
+ghost use Rattle.types.specs.Mounts.{emptyMount, readOnly};
 use crate::ErrorPolicy;
-use crate::Held;
 use crate::Mount;
-use crate::Outstanding;
 use crate::Volume;
 
 // What a refused mount hands out.
@@ -24,31 +22,6 @@ pub fn empty_mount() -> Mount
     Mount {
         volume,
         readonly: false,
-        outstanding: Outstanding::Idle,
-    }
-}
-
-// The mount with a command outstanding.
-pub fn with_held(m: Mount, h: Held) -> Mount
-    ensures { λ r. ⌜ r ≡ holding m h ⌝ }
-{
-    let volume = m.volume;
-    Mount {
-        volume,
-        readonly: m.readonly,
-        outstanding: Outstanding::Busy(h),
-    }
-}
-
-// The mount with nothing outstanding.
-pub fn without_held(m: Mount) -> Mount
-    ensures { λ r. ⌜ r ≡ cleared m ⌝ }
-{
-    let volume = m.volume;
-    Mount {
-        volume,
-        readonly: m.readonly,
-        outstanding: Outstanding::Idle,
     }
 }
 
@@ -57,10 +30,8 @@ pub fn made_readonly(m: Mount) -> Mount
     ensures { λ r. ⌜ r ≡ readOnly m ⌝ }
 {
     let volume = m.volume;
-    let outstanding = m.outstanding;
     Mount {
         volume,
         readonly: true,
-        outstanding,
     }
 }

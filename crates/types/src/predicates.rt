@@ -62,5 +62,6 @@ pub fn is_busy(o: Outstanding) -> bool
     match o {
         Outstanding::Idle => false,
         Outstanding::Busy(_) => true,
+        Outstanding::Unknown => true,
     }
 }

@@ -8,7 +8,7 @@ use superblock::SUPER_BYTES;
 use types::MountAnswer;
 
 // Two rows, and a word left over.
-const TABLE_WORDS: usize = 11;
+const TABLE_WORDS: usize = 17;
 
 fn print_answer(answer: MountAnswer) {
     match answer {
@@ -44,7 +44,7 @@ fn show_mount(
 
 // Mounts with so many words of each table.
 fn show_on(block: u64, superblock: &[u8], options: &[u8], report: &[u8], cnvs: usize, seqs: usize)
-    requires { ⌜ (cnvs ≤ 11) × (seqs ≤ 11) ⌝ }
+    requires { ⌜ (cnvs ≤ 17) × (seqs ≤ 17) ⌝ }
 {
     let mut cnv = [7u64; TABLE_WORDS];
     let mut seq = [7u64; TABLE_WORDS];
@@ -60,7 +60,7 @@ fn show_on(block: u64, superblock: &[u8], options: &[u8], report: &[u8], cnvs: u
 
 // How many words of a table are lent.
 fn lent(words: u64) -> usize
-    ensures { λ r. ⌜ r ≤ 11 ⌝ }
+    ensures { λ r. ⌜ r ≤ 17 ⌝ }
 {
     if words <= TABLE_WORDS as u64 {
         words as usize

@@ -2,39 +2,75 @@
 
 use super::truth::Shown;
 use crate::player::calls::Reply;
-use crate::player::types::{Refusal, Volume};
+use crate::player::tape::Named;
+use crate::player::types::{Held, Refusal, Volume};
 
 pub const GOOD: u32 = 0;
+pub const NO_SUCH_FILE: u32 = 1;
+pub const OUTSTANDING: u32 = 2;
 pub const FAILED: u32 = 7;
 pub const NOTHING_OUTSTANDING: u32 = 8;
 pub const RECORD_MISMATCH: u32 = 9;
 pub const IMPOSSIBLE: u32 = 10;
 
-/// Hands a completion to the volume and gives the answer's number.
-pub fn complete(volume: &mut Volume, failed: Option<&Shown>) -> u32 {
-    match failed {
-        None => volume.succeed().map_or_else(Refusal::number, |_| GOOD),
-        Some(shown) => {
-            volume.fail(&shown.record, shown.capacity_given).map_or_else(Refusal::number, |_| FAILED)
-        }
-    }
+/// What a call or a completion finds of the file that it names.
+#[derive(Clone, Copy, Debug, PartialEq, Eq)]
+pub enum Found {
+    NoFile,
+    /// Nothing is outstanding on it, whatever is on others.
+    Idle,
+    Busy,
 }
 
-/// What is wrong with the answer to a call: 1 is for a file that isn't there and for nothing else, 10 never comes,
-/// and a refusal moves nothing.
-pub fn call_fault(exists: bool, answer: &Result<Reply, Refusal>, moved: bool) -> Option<String> {
+/// Hands a completion of the named file to the volume and gives the answer's number.
+pub fn complete(volume: &mut Volume, named: &Named, failed: Option<&Shown>) -> u32 {
+    let file = volume.named_file(named);
+    let answer = file.and_then(|(kind, number)| match failed {
+        None => volume.succeed(kind, number).map(|_| GOOD),
+        Some(shown) => volume.fail(kind, number, &shown.record, shown.capacity_given).map(|_| FAILED),
+    });
+    answer.unwrap_or_else(Refusal::number)
+}
+
+/// What is wrong with the answer to a call: 1 is for a file that isn't there and for nothing else, 2 for a busy one
+/// and for nothing else, and 10 never comes.
+pub fn call_fault(found: Found, answer: &Result<Reply, Refusal>) -> Option<String> {
     let number = answer.map_or_else(Refusal::number, |_| GOOD);
-    let may_come = if exists { matches!(number, GOOD | 2..=6) } else { number == 1 };
-    if !may_come {
-        let is_there = if exists { "is there" } else { "isn't there" };
-        return Some(format!("a call on a file that {is_there} is answered {number}"));
-    }
-    (number != GOOD && moved).then(|| format!("a refused call (answered {number}) moved something"))
+    let (what, may_come) = match found {
+        Found::NoFile => ("a file that isn't there", number == NO_SUCH_FILE),
+        Found::Idle => ("an idle file", matches!(number, GOOD | 3..=6)),
+        Found::Busy => ("a busy file", number == OUTSTANDING),
+    };
+    (!may_come).then(|| format!("a call on {what} is answered {number}"))
 }
 
-/// What is wrong with the answer to a completion: it is another one than it must be, it is a refusal and something
-/// moved, or it is none and a command is still outstanding.
-pub fn completion_fault(must_be: u32, answer: u32, before: &Volume, after: &Volume) -> Option<String> {
+/// What is wrong with what a call moved: an issued command is stored in the row of its file, and all else stays.
+pub fn call_moved(
+    named: &Named,
+    answer: &Result<Reply, Refusal>,
+    before: &Volume,
+    after: &Volume,
+) -> Option<String> {
+    let mut expected = before.clone();
+    if let (Ok(Reply::Issued(command)), Some((kind, number))) = (answer, named.file()) {
+        expected.row_mut(kind, number).held = Held::Command(*command);
+    }
+    (*after != expected).then(|| match answer {
+        Ok(Reply::Issued(_)) => "a call moved something beside the command in its row".to_string(),
+        Ok(Reply::Done(_)) => "a call that was answered at once moved something".to_string(),
+        Err(refusal) => format!("a refused call (answered {}) moved something", refusal.number()),
+    })
+}
+
+/// What is wrong with the answer to a completion of the named file: it is another one than it must be, it is a
+/// refusal and something moved, or it is none and the file's command is still outstanding.
+pub fn completion_fault(
+    named: &Named,
+    must_be: u32,
+    answer: u32,
+    before: &Volume,
+    after: &Volume,
+) -> Option<String> {
     let refused = answer != GOOD && answer != FAILED;
     if refused && after != before {
         return Some(format!("is answered {answer} and moved something"));
@@ -42,6 +78,7 @@ pub fn completion_fault(must_be: u32, answer: u32, before: &Volume, after: &Volu
     if answer != must_be {
         return Some(format!("is answered {answer} and not {must_be}"));
     }
-    let still_held = !refused && after.mount.held.is_some();
-    still_held.then(|| format!("is answered {answer} and leaves a command outstanding"))
+    let is_held = |(kind, number)| after.row(kind, number).held.is_outstanding();
+    let still_held = !refused && named.file().is_some_and(is_held);
+    still_held.then(|| format!("is answered {answer} and leaves the file's command outstanding"))
 }

@@ -1,34 +1,39 @@
-//! The consistency check: a run of calls, mishaps and completions on a truthful disk, compared with a fresh
-//! mount whenever nothing is outstanding.
+//! The consistency check: a run of calls, mishaps and completions on a truthful disk. After each of them every file that
+//! has nothing outstanding is compared with a fresh mount.
 
 use std::collections::VecDeque;
 
 use super::answers::{
-    call_fault, complete, completion_fault, FAILED, GOOD, IMPOSSIBLE, NOTHING_OUTSTANDING, RECORD_MISMATCH,
+    call_fault, call_moved, complete, completion_fault, Found, FAILED, GOOD, IMPOSSIBLE, NOTHING_OUTSTANDING,
+    NO_SUCH_FILE, RECORD_MISMATCH,
 };
 use super::model::{Choice, Disk, Mishap, Outcome};
 use super::truth::{is_true, shown_in, Shown, FREEDOMS};
 use crate::player::calls::{Call, Reply};
-use crate::player::mount::Input;
+use crate::player::mount::{mount, Input};
 use crate::player::play::mount_volume;
 use crate::player::superblock;
-use crate::player::tape::CallRecord;
+use crate::player::tape::{CallRecord, Named};
 use crate::player::types::{
-    Access, Condition, FileKind, Held, Operation, Policy, Refusal, Row, Volume, SECTOR,
+    Access, Condition, FileKind, Operation, Outstanding, Policy, Refusal, Row, Volume, SECTOR,
 };
 use crate::player::zone::{self, Zone, HEADER, RECORD};
 
 /// A failed check shows so many entries of its run.
 const ENTRIES_SHOWN: usize = 40;
+/// A run's tables have so many rows past their files, which nothing may move. More would only cost time.
+const SPARE_ROWS: usize = 3;
 /// The check allows for so many exceptions.
 pub const EXCEPTIONS: usize = 3;
 
 /// What a check has compared.
 #[derive(Clone, Copy, Debug, Default, PartialEq, Eq)]
 pub struct Compared {
-    /// States with nothing outstanding, each with a fresh mount.
+    /// States between entries, each with a fresh mount.
     pub states: u64,
+    /// Rows with nothing outstanding that were compared with it, and those of them while other files had commands.
     pub rows: u64,
+    pub rows_beside: u64,
     pub exceptions: [u64; EXCEPTIONS],
     /// Commands that failed, each with a record.
     pub failures: u64,
@@ -43,6 +48,7 @@ impl Compared {
     pub fn add(&mut self, other: &Compared) {
         self.states += other.states;
         self.rows += other.rows;
+        self.rows_beside += other.rows_beside;
         self.failures += other.failures;
         self.impossible += other.impossible;
         add_each(&mut self.exceptions, &other.exceptions);
@@ -73,24 +79,23 @@ struct Story {
 /// One entry of the list, kept to be shown when a check fails.
 #[derive(Clone, Copy, Debug)]
 pub enum Entry {
-    Call(Call, Result<Reply, Refusal>),
-    /// A call with a kind byte that no file has.
-    UnknownKind(CallRecord, Result<Reply, Refusal>),
+    Call(CallRecord, Result<Reply, Refusal>),
     Mishap {
         zone: usize,
         mishap: Mishap,
         happened: bool,
     },
     Doing {
-        held: Held,
+        command: Outstanding,
         choice: Choice,
         outcome: Outcome,
         /// What the record of a failure says.
         shown: Option<Zone>,
     },
-    IdleCompletion,
+    /// A completion that names a file with nothing outstanding, or no file.
+    StrayCompletion(Named),
     /// A record that isn't the disk's, refused. The paper's lists don't have it; it changes nothing.
-    UntrueCompletion,
+    UntrueCompletion(Named),
 }
 
 /// Makes a report that shows the zones as they are.
@@ -106,6 +111,8 @@ pub struct Run {
     cnv: Vec<Story>,
     seq: Vec<Story>,
     seq_zone: Vec<usize>,
+    /// What the disk was given by calls and hasn't done yet, in the order of issue.
+    outstanding: Vec<Outstanding>,
     /// How many entries there were, and the last of them.
     entries: u64,
     last_entries: VecDeque<Entry>,
@@ -116,7 +123,9 @@ impl Run {
     /// Starts from a mount that must be answered 0, with the disk as its report says.
     pub fn begin(input: &Input) -> Result<Run, String> {
         let refused = |refusal: Refusal| format!("the first mount is refused with {}", refusal.number());
-        let volume = mount_volume(input).map_err(refused)?;
+        let mut volume = mount_volume(input).map_err(refused)?;
+        volume.cnv.truncate(volume.mount.cnv_files + SPARE_ROWS);
+        volume.seq.truncate(volume.mount.seq_files + SPARE_ROWS);
         let zones = zone::decode_report(&input.report).map_err(refused)?;
         let aggregate = superblock::decode(&input.super_block).map_err(refused)?.aggregate;
         let owner = owners(&zones, aggregate);
@@ -137,6 +146,7 @@ impl Run {
             volume,
             owner,
             seq_zone,
+            outstanding: Vec::new(),
             entries: 0,
             last_entries: VecDeque::new(),
             compared: Compared::default(),
@@ -150,26 +160,41 @@ impl Run {
         Run { show_report: Box::new(show_report), ..self }
     }
 
+    /// The commands that the disk has yet to do, in the order of issue.
+    pub fn outstanding(&self) -> &[Outstanding] {
+        &self.outstanding
+    }
+
+    pub fn is_busy(&self, kind: FileKind, number: u32) -> bool {
+        self.outstanding.iter().any(|command| command.is_of(kind, number))
+    }
+
     pub fn call(&mut self, call: &Call) -> Result<(), String> {
-        let before = self.volume.clone();
-        let answer = self.volume.call(call);
-        self.note(Entry::Call(*call, answer));
-        let exists = self.owner.contains(&Some((call.kind, call.number)));
-        self.complain_of(call_fault(exists, &answer, self.volume != before))?;
-        self.check_frame(&before, call.kind, call.number)?;
-        self.end_entry()
+        self.recorded_call(&CallRecord::of(call))
     }
 
     /// A call as a tape has it: also one with a kind byte that no file has.
     pub fn recorded_call(&mut self, record: &CallRecord) -> Result<(), String> {
-        if let Some(call) = record.call() {
-            return self.call(&call);
-        }
+        let named = record.named();
+        let found = self.find(&named);
         let before = self.volume.clone();
         let answer = self.volume.recorded_call(record);
-        self.note(Entry::UnknownKind(*record, answer));
-        self.complain_of(call_fault(false, &answer, self.volume != before))?;
+        self.note(Entry::Call(*record, answer));
+        self.complain_of(call_fault(found, &answer))?;
+        self.complain_of(call_moved(&named, &answer, &before, &self.volume))?;
+        if let (Ok(Reply::Issued(command)), Some((kind, number))) = (answer, named.file()) {
+            self.outstanding.push(Outstanding { kind, number, command });
+        }
         self.end_entry()
+    }
+
+    /// Whether the file is there, by the zones, and busy, by what the disk has yet to do.
+    fn find(&self, named: &Named) -> Found {
+        match named.file() {
+            Some((kind, number)) if self.is_busy(kind, number) => Found::Busy,
+            Some(file) if self.owner.contains(&Some(file)) => Found::Idle,
+            _ => Found::NoFile,
+        }
     }
 
     pub fn mishap(&mut self, zone: usize, mishap: Mishap) -> Result<(), String> {
@@ -181,69 +206,89 @@ impl Run {
         self.end_entry()
     }
 
-    /// A completion while nothing is outstanding: refused, and nothing moves.
-    pub fn idle_completion(&mut self, failed: Option<&Shown>) -> Result<(), String> {
+    /// A completion that names a file with nothing outstanding, or no file: refused, and nothing moves.
+    pub fn stray_completion(&mut self, named: &Named, failed: Option<&Shown>) -> Result<(), String> {
+        let must_be = match self.find(named) {
+            Found::NoFile => NO_SUCH_FILE,
+            Found::Idle => NOTHING_OUTSTANDING,
+            Found::Busy => return Err(self.complaint("a stray completion names a busy file")),
+        };
         let before = self.volume.clone();
-        let answer = complete(&mut self.volume, failed);
-        self.note(Entry::IdleCompletion);
-        self.check_completion("an idle completion", NOTHING_OUTSTANDING, answer, &before, &self.volume)?;
+        let answer = complete(&mut self.volume, named, failed);
+        self.note(Entry::StrayCompletion(*named));
+        let fault = completion_fault(named, must_be, answer, &before, &self.volume);
+        self.complain_of(fault.map(|fault| format!("a stray completion {fault}")))?;
         self.end_entry()
     }
 
-    /// A failure whose record isn't the disk's: refused, and nothing moves. One that the player takes would be a lie
-    /// of the disk, which has no place in a run: then it didn't come, and false is given.
-    pub fn untrue_completion(&mut self, shown: &Shown) -> Result<bool, String> {
+    /// A failure of a busy file whose record isn't the disk's: refused, and nothing moves. One that the player takes
+    /// would be a lie of the disk, which has no place in a run: then it didn't come, and false is given.
+    pub fn untrue_completion(&mut self, named: &Named, shown: &Shown) -> Result<bool, String> {
         let mut trial = self.volume.clone();
-        let answer = complete(&mut trial, Some(shown));
+        let answer = complete(&mut trial, named, Some(shown));
         if answer == FAILED {
             return Ok(false);
         }
-        self.note(Entry::UntrueCompletion);
-        self.check_completion("an untrue completion", RECORD_MISMATCH, answer, &self.volume, &trial)?;
+        self.note(Entry::UntrueCompletion(*named));
+        let fault = completion_fault(named, RECORD_MISMATCH, answer, &self.volume, &trial);
+        self.complain_of(fault.map(|fault| format!("an untrue completion {fault}")))?;
         Ok(true)
     }
 
-    /// A completion on a spoilt copy of the volume, with a command outstanding: refused, and nothing moves.
-    pub fn impossible_completion(&mut self, spoilt: &Volume, failed: Option<&Shown>) -> Result<(), String> {
+    /// A completion of a busy file on a spoilt copy of the volume: refused, and nothing moves.
+    pub fn impossible_completion(
+        &mut self,
+        spoilt: &Volume,
+        named: &Named,
+        failed: Option<&Shown>,
+    ) -> Result<(), String> {
         let mut trial = spoilt.clone();
-        let answer = complete(&mut trial, failed);
+        let answer = complete(&mut trial, named, failed);
         self.compared.impossible += 1;
-        self.check_completion("a completion on a copy that no run has", IMPOSSIBLE, answer, spoilt, &trial)
+        let fault = completion_fault(named, IMPOSSIBLE, answer, spoilt, &trial);
+        self.complain_of(fault.map(|fault| format!("a completion on a copy that no run has {fault}")))
     }
 
-    /// The disk does the outstanding command and its completion is digested; `show` makes the record of the zone.
-    /// Nothing happens, and None is given, while nothing is outstanding.
+    /// The disk does the file's command and its completion is digested, in one moment; `show` makes the record of the
+    /// zone. Nothing happens, and None is given, while nothing is outstanding on the file.
     pub fn doing(
         &mut self,
+        kind: FileKind,
+        number: u32,
         choice: &Choice,
         mut show: impl FnMut(&Zone) -> Shown,
     ) -> Result<Option<Option<Shown>>, String> {
-        let Some(held) = self.volume.mount.held else { return Ok(None) };
-        let quiet = self.story(held.kind, held.number).quiet;
-        let outcome = self.disk.perform(&held.command, quiet, choice);
+        let Some(place) = self.outstanding.iter().position(|command| command.is_of(kind, number)) else {
+            return Ok(None);
+        };
+        let command = self.outstanding.remove(place);
+        let quiet = self.story(kind, number).quiet;
+        let outcome = self.disk.perform(&command.command, quiet, choice);
         if outcome.mishap {
             self.disturb(outcome.zone);
         }
         let shown = outcome.failed.then(|| show(&self.disk.zones[outcome.zone]));
-        self.note(Entry::Doing { held, choice: *choice, outcome, shown: shown.map(|shown| shown.zone()) });
+        self.note(Entry::Doing { command, choice: *choice, outcome, shown: shown.map(|shown| shown.zone()) });
         if let Some(shown) = &shown {
             let freedoms = self.check_shown(shown, outcome.zone)?;
             add_each(&mut self.compared.records, &freedoms);
             self.compared.failures += 1;
         }
-        self.digest(&held, shown.as_ref())?;
-        self.note_completion(&held, &outcome);
+        self.digest(&command, shown.as_ref())?;
+        self.note_completion(&command, &outcome);
         self.end_entry()?;
         Ok(Some(shown))
     }
 
     /// Digests a truthful completion.
-    fn digest(&mut self, held: &Held, failed: Option<&Shown>) -> Result<(), String> {
+    fn digest(&mut self, command: &Outstanding, failed: Option<&Shown>) -> Result<(), String> {
+        let named = Named::of(command.kind, command.number);
         let before = self.volume.clone();
-        let answer = complete(&mut self.volume, failed);
+        let answer = complete(&mut self.volume, &named, failed);
         let must_be = if failed.is_some() { FAILED } else { GOOD };
-        self.check_completion("a truthful completion", must_be, answer, &before, &self.volume)?;
-        self.check_frame(&before, held.kind, held.number)
+        let fault = completion_fault(&named, must_be, answer, &before, &self.volume);
+        self.complain_of(fault.map(|fault| format!("a truthful completion {fault}")))?;
+        self.check_frame(&before, command, failed.is_some())
     }
 
     /// What isn't true of the zone is a fault; gives in what it differs from the disk's own bytes, as counts.
@@ -254,18 +299,6 @@ impl Run {
             format!("zone {number} is {zone:?}, and is shown as {:?}, which isn't true", shown.zone())
         }))?;
         Ok(shown.freedoms(zone).map(u64::from))
-    }
-
-    fn check_completion(
-        &self,
-        what: &str,
-        must_be: u32,
-        answer: u32,
-        before: &Volume,
-        after: &Volume,
-    ) -> Result<(), String> {
-        let fault = completion_fault(must_be, answer, before, after);
-        self.complain_of(fault.map(|fault| format!("{what} {fault}")))
     }
 
     fn complain_of(&self, fault: Option<String>) -> Result<(), String> {
@@ -280,13 +313,13 @@ impl Run {
         }
     }
 
-    /// The file of the outstanding command is quiet again, unless all that was seen is a good read.
-    fn note_completion(&mut self, held: &Held, outcome: &Outcome) {
-        let read = held.command.operation == Operation::Read;
+    /// The file of the command is quiet again, unless all that was seen is a good read.
+    fn note_completion(&mut self, command: &Outstanding, outcome: &Outcome) {
+        let read = command.command.operation == Operation::Read;
         let zone = self.disk.zones[outcome.zone];
-        let story = self.story(held.kind, held.number);
+        let story = self.story(command.kind, command.number);
         // Only sequential files are compared, so only their recoveries matter.
-        if outcome.failed && held.kind == FileKind::Sequential {
+        if outcome.failed && command.kind == FileKind::Sequential {
             let as_before = zone.health() == Condition::Healthy && size_if_healthy(&zone) == story.last_size;
             story.recovered |= !(read && as_before);
         }
@@ -306,21 +339,18 @@ impl Run {
         }
     }
 
-    /// Only the row that is concerned may have changed, and beyond it only the held command and the mark.
-    fn check_frame(&self, before: &Volume, kind: FileKind, number: u32) -> Result<(), String> {
+    /// A completion may have changed the row of its file, and by a failure under remount-ro set the mark. What other
+    /// files have outstanding stays in their rows.
+    fn check_frame(&self, before: &Volume, command: &Outstanding, failed: bool) -> Result<(), String> {
         let mut expected = before.clone();
-        expected.mount.held = self.volume.mount.held;
-        expected.mount.read_only = self.volume.mount.read_only;
-        if let Some(row) = self.volume.rows(kind).get(number as usize) {
-            *expected.row_mut(kind, number) = *row;
-        }
-        if expected != self.volume {
-            return Err(self.complaint("something moved beside the row that was concerned"));
-        }
-        Ok(())
+        let may_mark = failed && before.mount.policy == Policy::RemountReadOnly;
+        expected.mount.read_only |= may_mark && self.volume.mount.read_only;
+        *expected.row_mut(command.kind, command.number) = *self.volume.row(command.kind, command.number);
+        let moved = expected != self.volume;
+        self.complain_of(moved.then(|| "something moved beside the row that was concerned".to_string()))
     }
 
-    /// Between entries: last sizes are taken, and with nothing outstanding a fresh mount is compared.
+    /// Between entries: last sizes are taken, and each file that has nothing outstanding is compared with a fresh mount.
     fn end_entry(&mut self) -> Result<(), String> {
         for (story, &zone) in self.seq.iter_mut().zip(&self.seq_zone) {
             let zone = &self.disk.zones[zone];
@@ -328,28 +358,33 @@ impl Run {
                 story.last_size = size_if_healthy(zone);
             }
         }
-        if self.volume.mount.held.is_some() {
-            return Ok(());
-        }
         self.compared.states += 1;
-        let fresh = self.fresh_mount()?;
-        for number in 0..self.seq.len() {
-            if self.seq[number].quiet {
-                self.compare_row(number, &fresh.seq[number])?;
+        let fresh = self.fresh_rows()?;
+        self.compare_rows(&fresh)
+    }
+
+    /// Every quiet sequential file with nothing outstanding.
+    fn compare_rows(&mut self, fresh: &[Row]) -> Result<(), String> {
+        for (number, fresh) in fresh.iter().enumerate().take(self.seq.len()) {
+            if self.seq[number].quiet && !self.is_busy(FileKind::Sequential, number as u32) {
+                self.compare_row(number, fresh)?;
             }
         }
         Ok(())
     }
 
-    /// A mount with the same arguments but a report that shows the zones as they are now.
-    fn fresh_mount(&mut self) -> Result<Volume, String> {
+    /// The sequential rows of a mount with the same arguments, in other tables as long, but with a report that shows the
+    /// zones as they are now.
+    fn fresh_rows(&mut self) -> Result<Vec<Row>, String> {
         let report = (self.show_report)(&self.disk.zones);
         let input = Input { report, ..self.input.clone() };
-        let fresh = mount_volume(&input).map_err(|refusal| {
+        let mut cnv = vec![Row::EMPTY; self.volume.cnv.len()];
+        let mut seq = vec![Row::EMPTY; self.volume.seq.len()];
+        mount(&input, &mut cnv, &mut seq).map_err(|refusal| {
             self.complaint(&format!("the fresh mount is refused with {}", refusal.number()))
         })?;
         self.check_report(&input.report)?;
-        Ok(fresh)
+        Ok(seq)
     }
 
     /// The report shows all zones, and of each what is true.
@@ -381,6 +416,7 @@ impl Run {
             return Err(self.complaint(&what));
         }
         self.compared.rows += 1;
+        self.compared.rows_beside += u64::from(!self.outstanding.is_empty());
         if let Some(which) = exception {
             self.compared.exceptions[which - 1] += 1;
         }

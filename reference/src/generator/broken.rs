@@ -1,47 +1,59 @@
 //! Tapes that break off, or whose records are unknown or out of place.
 
 use super::calls::any_call;
+use super::failures::noise_record;
 use super::random::Random;
 use super::records::encode;
-use super::runs;
 use super::shape;
-use crate::player::tape::{Next, Reader, Record};
+use super::wild;
+use crate::player::tape::{Named, Next, Reader, Record, NAMED_LENGTH};
 use crate::player::zone;
 
 /// A broken tape, or one that is just not broken.
 pub fn tape(random: &mut Random) -> Vec<u8> {
-    let tape = runs::wild(random);
-    match random.below(8) {
+    let tape = wild::tape(random);
+    match random.below(9) {
         0 => cut(random, tape),
         1 => cut_at_a_record(random, &tape),
-        2 => reorder(random, &tape),
-        3 => replace_a_mark(random, tape),
-        4 => insert(random, &tape),
-        5 => miscount(random, tape),
-        6 => flip(random, tape),
+        2 => cut_a_completion(random, &tape),
+        3 => reorder(random, &tape),
+        4 => replace_a_mark(random, tape),
+        5 => insert(random, &tape),
+        6 => miscount(random, tape),
+        7 => flip(random, tape),
         _ => nothing_much(random),
     }
 }
 
 /// Adds something to the end that stops the player, and something after it.
 pub fn spoil_end(random: &mut Random, tape: &mut Vec<u8>) {
-    match random.below(6) {
+    match random.below(8) {
         0 => tape.push(random.pick(b"ROWNTFBSZM?\0")),
         1 => tape.extend_from_slice(random.pick(&[b"??", b"rd", b"KO", b"\0\0", b"ON"])),
         2 => encode(&Record::Block(512), tape),
         3 => encode(&Record::Options(b""), tape),
-        4 => tape.extend_from_slice(b"NO"),
         _ => {
-            let mut record = Vec::new();
-            encode(&Record::Call(any_call(random)), &mut record);
-            record.truncate(random.between(2, record.len() as u64 - 1) as usize);
-            tape.extend_from_slice(&record);
+            // Nothing may follow, as it would be taken for the rest.
+            let record = any_record(random);
+            tape.extend_from_slice(&record[..random.between(2, record.len() as u64 - 1) as usize]);
             return;
         }
     }
     if random.percent(50) {
-        tape.extend_from_slice(b"OKOK");
+        tape.extend_from_slice(b"OK\0\0\0\0\0OK");
     }
+}
+
+/// A call or a completion, as bytes. A failed one has the most places to be cut at, so it is the commonest.
+fn any_record(random: &mut Random) -> Vec<u8> {
+    let mut bytes = Vec::new();
+    let named = Named { kind: random.below(2) as u8, number: random.below(3) as u32 };
+    match random.weighted(&[20, 30, 50]) {
+        0 => encode(&Record::Call(any_call(random)), &mut bytes),
+        1 => encode(&Record::Good(named), &mut bytes),
+        _ => encode(&Record::Failed(named, &noise_record(random)), &mut bytes),
+    }
+    bytes
 }
 
 /// Where each record begins, and the end of what can be read.
@@ -68,6 +80,21 @@ fn cut_at_a_record(random: &mut Random, tape: &[u8]) -> Vec<u8> {
         if random.percent(50) { random.pick(&starts[..starts.len().min(6)]) } else { random.pick(&starts) };
     let slip = random.pick(&[0, 0, 1, 2, 3]);
     tape[..(at + slip).min(tape.len())].to_vec()
+}
+
+/// Cuts one completion anywhere in it; the tape's end if it has none.
+fn cut_a_completion(random: &mut Random, tape: &[u8]) -> Vec<u8> {
+    let starts = starts(tape);
+    let records = starts.windows(2).map(|ends| (ends[0], ends[1]));
+    let is_completion = |&(start, _): &(usize, usize)| matches!(&tape[start..start + 2], b"OK" | b"NO");
+    let completions: Vec<(usize, usize)> = records.filter(is_completion).collect();
+    if completions.is_empty() {
+        return tape[..tape.len() - 1].to_vec();
+    }
+    let (start, end) = random.pick(&completions);
+    // Half of them lack no more than a file's name.
+    let missing = if random.percent(50) { NAMED_LENGTH } else { end - start - 1 };
+    tape[..end - random.between(1, missing as u64) as usize].to_vec()
 }
 
 /// Swaps, drops or repeats one of the first records.
@@ -97,14 +124,11 @@ fn replace_a_mark(random: &mut Random, mut tape: Vec<u8>) -> Vec<u8> {
 fn insert(random: &mut Random, tape: &[u8]) -> Vec<u8> {
     let at = random.pick(&starts(tape));
     let mut result = tape[..at].to_vec();
-    let call = any_call(random);
-    let record = random.pick(&[
-        Record::Block(4096),
-        Record::Options(b"errors=repair"),
-        Record::Good,
-        Record::Call(call),
-    ]);
-    encode(&record, &mut result);
+    match random.below(3) {
+        0 => encode(&Record::Block(4096), &mut result),
+        1 => encode(&Record::Options(b"errors=repair"), &mut result),
+        _ => result.extend_from_slice(&any_record(random)),
+    }
     result.extend_from_slice(&tape[at..]);
     result
 }
@@ -132,7 +156,7 @@ fn nothing_much(random: &mut Random) -> Vec<u8> {
     match random.below(5) {
         0 => {}
         1 => tape.push(b'B'),
-        2 => encode(&Record::Good, &mut tape),
+        2 => tape = any_record(random),
         3 => {
             tape.resize(random.between(1, 200) as usize, 0);
             random.fill(&mut tape);

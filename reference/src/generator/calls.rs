@@ -2,8 +2,12 @@
 
 use super::random::Random;
 use crate::player::tape::{CallRecord, Verb};
-use crate::player::types::{Access, Condition, FileKind, Row, Volume};
+use crate::player::types::{Access, FileKind, Row, Volume};
 
+/// Kind bytes that no file has.
+pub const NO_KINDS: [u8; 4] = [2, 3, 128, 255];
+/// Numbers that few disks have a file of, or none.
+pub const HIGH_NUMBERS: [u64; 5] = [1021, 1022, 1023, 65_536, u32::MAX as u64];
 const VERBS: [Verb; 4] = [Verb::Read, Verb::Write, Verb::Truncate, Verb::Flush];
 
 /// A call on nothing in particular.
@@ -12,9 +16,16 @@ pub fn any_call(random: &mut Random) -> CallRecord {
     CallRecord { verb: random.pick(&VERBS), kind: random.below(2) as u8, number: 0, offset, length }
 }
 
-/// A call on one of the volume's files, mostly; the file `busy` of each kind and its next two get most calls.
-pub fn call(random: &mut Random, volume: &Volume, busy: u64) -> CallRecord {
-    let (kind, number, row) = lively_file(random, volume, busy);
+/// The files of each kind that get most of the calls, so that much happens to each of them.
+#[derive(Clone, Copy, Debug)]
+pub struct Focus {
+    pub first: u64,
+    pub width: u64,
+}
+
+/// A call on one of the volume's files, mostly.
+pub fn call(random: &mut Random, volume: &Volume, focus: &Focus) -> CallRecord {
+    let (kind, number, row) = lively_file(random, volume, focus);
     // A read-only mount refuses all but reads before it looks at them.
     let weights = if volume.mount.read_only { [76, 10, 7, 7] } else { [24, 42, 20, 14] };
     let verb = VERBS[random.weighted(&weights)];
@@ -28,24 +39,30 @@ pub fn call(random: &mut Random, volume: &Volume, busy: u64) -> CallRecord {
     CallRecord { verb, kind, number, offset, length }
 }
 
-/// Looks a few times for a file that can be used at all; calls on the others are answered 4 and nothing else.
-fn lively_file(random: &mut Random, volume: &Volume, busy: u64) -> (u8, u32, Row) {
-    let mut chosen = file(random, volume, busy);
-    for _ in 0..3 {
-        let access = row_of(volume, chosen).map_or(Access::Write, |row| row.access);
-        let wanted = if random.percent(70) { Access::Write } else { Access::Read };
-        if access >= wanted || random.percent(10) {
+/// Looks a few times for a file that can be used at all.
+fn lively_file(random: &mut Random, volume: &Volume, focus: &Focus) -> (u8, u32, Row) {
+    let mut chosen = file(random, volume, focus);
+    for _ in 0..4 {
+        let row = row_of(volume, chosen).unwrap_or(NO_FILE);
+        if is_wanted(random, &row) {
             break;
         }
-        chosen = file(random, volume, busy);
+        chosen = file(random, volume, focus);
     }
     let row = row_of(volume, chosen).unwrap_or(NO_FILE);
     (chosen.0, chosen.1, row)
 }
 
+/// Calls on the others are answered 4, or 2 while they are busy, and nothing else.
+fn is_wanted(random: &mut Random, row: &Row) -> bool {
+    let access = if random.percent(70) { Access::Write } else { Access::Read };
+    let usable = row.access >= access || random.percent(10);
+    let idle = !row.held.is_outstanding() || random.percent(18);
+    usable && idle
+}
+
 /// Stands in for the row of a file that isn't there.
-const NO_FILE: Row =
-    Row { start: 8, capacity: 1 << 20, size: 0, condition: Condition::Healthy, access: Access::Write };
+const NO_FILE: Row = Row { start: 8, capacity: 1 << 20, access: Access::Write, ..Row::EMPTY };
 
 fn row_of(volume: &Volume, (kind, number): (u8, u32)) -> Option<Row> {
     let kind = if kind == 0 { FileKind::Conventional } else { FileKind::Sequential };
@@ -53,10 +70,10 @@ fn row_of(volume: &Volume, (kind, number): (u8, u32)) -> Option<Row> {
     (row.capacity != 0).then_some(row)
 }
 
-/// Kind byte and number. Few files get most of the calls, so that much happens to each of them.
-fn file(random: &mut Random, volume: &Volume, busy: u64) -> (u8, u32) {
+/// Kind byte and number.
+fn file(random: &mut Random, volume: &Volume, focus: &Focus) -> (u8, u32) {
     if random.percent(2) {
-        return (random.pick(&[2, 3, 128, 255]), random.below(3) as u32);
+        return (random.pick(&NO_KINDS), random.below(3) as u32);
     }
     let counts = [volume.mount.cnv_files as u64, volume.mount.seq_files as u64];
     let preferred = usize::from(random.percent(75));
@@ -64,10 +81,10 @@ fn file(random: &mut Random, volume: &Volume, busy: u64) -> (u8, u32) {
     let kind = if counts[preferred] == 0 && random.percent(97) { 1 - preferred } else { preferred };
     let count = counts[kind];
     let number = match random.weighted(&[70, 24, 3, 3]) {
-        0 => (busy + random.below(count.min(3))) % count.max(1),
+        0 => (focus.first + random.below(count.min(focus.width))) % count.max(1),
         1 => random.below(count),
         2 => count + random.below(2),
-        _ => random.pick(&[1021, 1022, 1023, 65_536, u64::from(u32::MAX)]),
+        _ => random.pick(&HIGH_NUMBERS),
     };
     (kind as u8, number as u32)
 }

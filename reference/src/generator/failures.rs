@@ -6,7 +6,7 @@ use super::refused::spoil_zone;
 use super::shape::{any_pointer, encode_zone, report_header};
 use crate::disk::truth::Shown;
 use crate::player::types::{
-    Command, Condition, FileKind, Held, Operation, Reason, Row, Volume, DISK_LIMIT, SECTOR,
+    Command, Condition, FileKind, Operation, Outstanding, Reason, Row, Volume, DISK_LIMIT, SECTOR,
 };
 use crate::player::zone::{self, Zone, RECORD};
 
@@ -26,17 +26,17 @@ pub fn own_report(random: &mut Random, zones: &[Zone]) -> Vec<u8> {
     report
 }
 
-/// A record that fits the file of the held command, mostly.
-pub fn plausible_record(random: &mut Random, volume: &Volume, held: &Held) -> [u8; RECORD] {
-    let zone = plausible_zone(random, volume, held);
+/// A record that fits the file of a command, mostly.
+pub fn plausible_record(random: &mut Random, volume: &Volume, of: &Outstanding) -> [u8; RECORD] {
+    let zone = plausible_zone(random, volume, of);
     encode_zone(random, &zone)
 }
 
 /// The same with faults: mostly of chosen reasons, often of several.
-pub fn damaged_record(random: &mut Random, volume: &Volume, held: &Held) -> [u8; RECORD] {
+pub fn damaged_record(random: &mut Random, volume: &Volume, of: &Outstanding) -> [u8; RECORD] {
     let step = volume.mount.block / SECTOR;
-    let row = volume.row(held.kind, held.number);
-    let mut zone = plausible_zone(random, volume, held);
+    let row = volume.row(of.kind, of.number);
+    let mut zone = plausible_zone(random, volume, of);
     if random.percent(25) {
         spoil_zone(random, &mut zone, step);
         return encode_zone(random, &zone);
@@ -53,7 +53,7 @@ pub fn damaged_record(random: &mut Random, volume: &Volume, held: &Held) -> [u8;
         make_healthy(random, &mut zone);
     }
     if chosen.contains(&Reason::OtherZone) {
-        match held.kind {
+        match of.kind {
             FileKind::Sequential => leave_sequential_file(random, &mut zone, step),
             FileKind::Conventional => leave_conventional_file(random, &mut zone, row, step),
         }
@@ -122,11 +122,11 @@ fn leave_conventional_file(random: &mut Random, zone: &mut Zone, row: &Row, step
     zone.capacity = zone.length;
 }
 
-fn plausible_zone(random: &mut Random, volume: &Volume, held: &Held) -> Zone {
-    let row = volume.row(held.kind, held.number);
+fn plausible_zone(random: &mut Random, volume: &Volume, of: &Outstanding) -> Zone {
+    let row = volume.row(of.kind, of.number);
     let step = volume.mount.block / SECTOR;
-    match held.kind {
-        FileKind::Sequential => sequential_zone(random, row, step, &held.command),
+    match of.kind {
+        FileKind::Sequential => sequential_zone(random, row, step, &of.command),
         FileKind::Conventional => conventional_zone(random, row, step),
     }
 }

@@ -1,16 +1,19 @@
 //! Volumes that no run can have, for the completions that are answered 10.
 
 use super::random::Random;
-use crate::player::types::{Access, Condition, FileKind, Held, Row, Volume, MAX_FILES};
+use crate::player::types::{Access, Command, Condition, FileKind, Held, Outstanding, Row, Volume, MAX_FILES};
 
-/// A copy of a volume with this command outstanding, spoilt such that number 10 forbids the completion.
-pub fn spoilt(random: &mut Random, volume: &Volume, held: &Held) -> Volume {
+/// A copy of a volume with this command outstanding, spoilt such that number 10 forbids its completion.
+pub fn spoilt(random: &mut Random, volume: &Volume, of: &Outstanding) -> Volume {
     let mut copy = volume.clone();
     match random.below(4) {
         0 => copy.mount.block = random.pick(&[0, 1, 1024, 4097]),
-        1 => spoil_counts(random, &mut copy, held.kind),
-        2 => spoil_row(random, copy.row_mut(held.kind, held.number)),
-        _ => copy.mount.held = Some(spoilt_command(random, volume, held)),
+        1 => spoil_counts(random, &mut copy, of.kind),
+        2 => spoil_row(random, copy.row_mut(of.kind, of.number)),
+        _ => {
+            let row = copy.row_mut(of.kind, of.number);
+            row.held = spoilt_command(random, row.start, &of.command);
+        }
     }
     copy
 }
@@ -37,14 +40,17 @@ fn spoil_row(random: &mut Random, row: &mut Row) {
     }
 }
 
-/// A command that no call on its file would issue, or one on a file that isn't there.
-fn spoilt_command(random: &mut Random, volume: &Volume, held: &Held) -> Held {
-    let mut spoilt = *held;
+/// What no call on the file would leave: a command that it wouldn't issue, or a word that is no command's.
+fn spoilt_command(random: &mut Random, start: u64, command: &Command) -> Held {
+    let mut spoilt = *command;
     match random.below(3) {
-        0 => spoilt.number = volume.files(held.kind) as u32 + random.below(3) as u32,
-        1 => spoilt.command.address = random.pick(&[0, volume.rows(held.kind)[held.number as usize].start]),
+        0 => spoilt.address = random.pick(&[0, start]),
         // A read or write of nothing, or another one with a length.
-        _ => spoilt.command.length = u64::from(held.command.length == 0),
+        1 => spoilt.length = u64::from(command.length == 0),
+        _ => {
+            let word = random.pick(&[6, 7, 256, 1 << 32, u64::MAX]);
+            return Held::NoCommand { word, address: command.address, length: command.length };
+        }
     }
-    spoilt
+    Held::Command(spoilt)
 }

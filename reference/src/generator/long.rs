@@ -31,7 +31,8 @@ pub fn long(seed: u64, calls: u64, pad: u64) -> Result<Vec<u8>, String> {
     let healthy_at_mount = healthy_zones(&run);
     let mut made = 0;
     for chapter in 0..calls.div_ceil(CHAPTER) {
-        let mut course = Course { busy: chapter * 3, ..Course::any(&mut random) };
+        let mut course = Course::any(&mut random);
+        course.focus.first = chapter * 3;
         let end = calls.min((chapter + 1) * CHAPTER);
         while made < end {
             // Nothing ever betters a zone, so half of them are kept, and the others are lost evenly over the run.
@@ -40,9 +41,17 @@ pub fn long(seed: u64, calls: u64, pad: u64) -> Result<Vec<u8>, String> {
             made += u64::from(step(&mut random, &mut run, &course, &mut tape)?);
         }
     }
-    let course = Course::any(&mut random);
-    doing(&mut random, &mut run, &course, &mut tape)?;
+    finish(&mut random, &mut run, &mut tape)?;
     Ok(tape)
+}
+
+/// Every command that is still outstanding is done.
+fn finish(random: &mut Random, run: &mut Run, tape: &mut Vec<u8>) -> Result<(), String> {
+    let course = Course::any(random);
+    while !run.outstanding().is_empty() {
+        doing(random, run, &course, tape)?;
+    }
+    Ok(())
 }
 
 /// A good mount with enough files of both kinds.

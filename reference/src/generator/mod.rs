@@ -1,7 +1,7 @@
 //! Seeded tapes. Each is one of four sorts: a run against the model disk, a run with any completions, a
 //! refused mount, a broken tape. And seeded cases for the formatter, which is on no tape.
 
-mod broken;
+pub mod broken;
 mod calls;
 pub mod failures;
 pub mod faults;
@@ -11,9 +11,12 @@ mod long;
 pub mod random;
 pub mod records;
 pub mod refused;
+mod remount;
 mod runs;
 pub mod shape;
+mod strays;
 pub mod truthful;
+mod wild;
 
 pub use long::{long, MAX_PAD};
 
@@ -32,7 +35,7 @@ pub fn generate(seed: u64, index: u64) -> Generated {
     let unchecked = |bytes| Generated { bytes, check: Ok(Compared::default()) };
     match random.weighted(&[42, 18, 28, 12]) {
         0 => runs::checked(&mut random),
-        1 => unchecked(runs::wild(&mut random)),
+        1 => unchecked(wild::tape(&mut random)),
         2 => unchecked(refused::tape(&mut random)),
         _ => unchecked(broken::tape(&mut random)),
     }

@@ -1,7 +1,7 @@
 //! Writing the records of a tape.
 
 use crate::player::mount::Input;
-use crate::player::tape::Record;
+use crate::player::tape::{Named, Record, NAMED_LENGTH};
 
 /// Appends a record, mark first.
 pub fn encode(record: &Record, tape: &mut Vec<u8>) {
@@ -15,12 +15,18 @@ pub fn encode(record: &Record, tape: &mut Vec<u8>) {
         Record::Report(bytes) => put("ZR", &[bytes]),
         Record::Options(text) => put("MO", &[&[text.len() as u8], text]),
         Record::Call(call) => {
-            let (number, offset) = (call.number.to_le_bytes(), call.offset.to_le_bytes());
-            put(call.verb.mark(), &[&[call.kind], &number, &offset, &call.length.to_le_bytes()]);
+            let (offset, length) = (call.offset.to_le_bytes(), call.length.to_le_bytes());
+            put(call.verb.mark(), &[&named_bytes(&call.named()), &offset, &length]);
         }
-        Record::Good => put("OK", &[]),
-        Record::Failed(bytes) => put("NO", &[bytes]),
+        Record::Good(file) => put("OK", &[&named_bytes(file)]),
+        Record::Failed(file, bytes) => put("NO", &[&named_bytes(file), bytes]),
     }
+}
+
+fn named_bytes(named: &Named) -> [u8; NAMED_LENGTH] {
+    let mut bytes = [named.kind; NAMED_LENGTH];
+    bytes[1..].copy_from_slice(&named.number.to_le_bytes());
+    bytes
 }
 
 /// The four records that a tape begins with.

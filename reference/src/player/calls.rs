@@ -1,6 +1,6 @@
 //! Finding and showing files, and deciding reads, writes, truncations and flushes.
 
-use super::tape::CallRecord;
+use super::tape::{CallRecord, Named};
 use super::types::{
     block_is_known, sum_within, Access, Command, Condition, FileKind, Held, Mount, Operation, Refusal, Row,
     Volume, DISK_LIMIT, MAX_FILES, SECTOR,
@@ -29,24 +29,23 @@ pub enum Reply {
 }
 
 impl Volume {
-    /// Decides a call and holds the command it issues, if any. A refusal changes nothing.
+    /// Decides a call and stores the command it issues, if any, in the file's row. Any other answer changes nothing.
     pub fn call(&mut self, call: &Call) -> Result<Reply, Refusal> {
         let row = self.checked_row(call.kind, call.number)?;
-        if self.mount.held.is_some() {
+        if row.held.is_outstanding() {
             return Err(Refusal::Outstanding);
         }
         let reply = decide(&self.mount, call.kind, &row, &call.request)?;
         if let Reply::Issued(command) = reply {
-            self.mount.held = Some(Held { kind: call.kind, number: call.number, command });
+            self.row_mut(call.kind, call.number).held = Held::Command(command);
         }
         Ok(reply)
     }
 
     /// The same for a call as a tape has it. With a kind byte that no file has, there is no such file.
     pub fn recorded_call(&mut self, record: &CallRecord) -> Result<Reply, Refusal> {
-        self.check_counts()?;
-        let call = record.call().ok_or(Refusal::NoSuchFile)?;
-        self.call(&call)
+        let (kind, number) = self.named_file(&record.named())?;
+        self.call(&Call { kind, number, request: record.request() })
     }
 
     /// The file of a name such as `seq/12`.
@@ -70,16 +69,27 @@ impl Volume {
 
     /// The checks that all calls share, before the one on the outstanding command.
     pub fn checked_row(&self, kind: FileKind, number: u32) -> Result<Row, Refusal> {
+        let row = self.existing_row(kind, number)?;
+        if !is_possible(&row, kind, self.mount.block) {
+            return Err(Refusal::Impossible);
+        }
+        Ok(row)
+    }
+
+    /// The checks that calls and completions share: the counts, and whether the file is there.
+    pub fn existing_row(&self, kind: FileKind, number: u32) -> Result<Row, Refusal> {
         self.check_counts()?;
         let number = number as usize;
         if number >= self.files(kind) {
             return Err(Refusal::NoSuchFile);
         }
-        let row = self.rows(kind)[number];
-        if !is_possible(&row, kind, self.mount.block) {
-            return Err(Refusal::Impossible);
-        }
-        Ok(row)
+        Ok(self.rows(kind)[number])
+    }
+
+    /// The file that a tape's record names, if it has a kind that there is. The counts come before that.
+    pub fn named_file(&self, named: &Named) -> Result<(FileKind, u32), Refusal> {
+        self.check_counts()?;
+        named.file().ok_or(Refusal::NoSuchFile)
     }
 
     fn check_counts(&self) -> Result<(), Refusal> {
@@ -109,7 +119,7 @@ fn parse_name(name: &[u8]) -> Option<(FileKind, u32)> {
     Some((kind, number))
 }
 
-/// What number 10 asks of a row.
+/// What number 10 asks of a row, whatever it holds.
 fn is_possible(row: &Row, kind: FileKind, block: u64) -> bool {
     let whole = |value: u64, unit: u64| value != 0 && value.is_multiple_of(unit);
     let placed = whole(row.start, block / SECTOR)
@@ -129,39 +139,33 @@ fn is_possible(row: &Row, kind: FileKind, block: u64) -> bool {
     placed && sized && accessible
 }
 
-/// What a call on a possible row is answered while nothing is outstanding. It doesn't look at the held command.
-pub fn decide(mount: &Mount, kind: FileKind, row: &Row, request: &Request) -> Result<Reply, Refusal> {
-    match *request {
-        Request::Read { offset, length } => read(row, offset, length),
-        Request::Write { offset, length } => {
-            check_writable(mount, row)?;
-            write(mount, kind, row, offset, length)
-        }
-        Request::Truncate { size } => {
-            check_writable(mount, row)?;
-            truncate(kind, row, size)
-        }
-        Request::Flush => {
-            check_writable(mount, row)?;
-            Ok(issue(row, Operation::Flush, 0, 0))
-        }
-    }
-}
-
-fn check_writable(mount: &Mount, row: &Row) -> Result<(), Refusal> {
-    if mount.read_only {
+/// What a call on a possible row with nothing outstanding is answered. It doesn't look at what the row holds.
+fn decide(mount: &Mount, kind: FileKind, row: &Row, request: &Request) -> Result<Reply, Refusal> {
+    let reads = matches!(request, Request::Read { .. });
+    if mount.read_only && !reads {
         return Err(Refusal::ReadOnlyMount);
     }
-    if row.access != Access::Write {
+    decide_unmarked(mount.block, kind, row, request)
+}
+
+/// The same on a mount without the read-only mark.
+pub fn decide_unmarked(block: u64, kind: FileKind, row: &Row, request: &Request) -> Result<Reply, Refusal> {
+    let needed = match request {
+        Request::Read { .. } => Access::Read,
+        Request::Write { .. } | Request::Truncate { .. } | Request::Flush => Access::Write,
+    };
+    if row.access < needed {
         return Err(Refusal::Access);
     }
-    Ok(())
+    match *request {
+        Request::Read { offset, length } => read(row, offset, length),
+        Request::Write { offset, length } => write(block, kind, row, offset, length),
+        Request::Truncate { size } => truncate(kind, row, size),
+        Request::Flush => Ok(issue(row, Operation::Flush, 0, 0)),
+    }
 }
 
 fn read(row: &Row, offset: u64, length: u64) -> Result<Reply, Refusal> {
-    if row.access == Access::None {
-        return Err(Refusal::Access);
-    }
     if !sum_within(offset, length, row.capacity) {
         return Err(Refusal::BeyondCapacity);
     }
@@ -172,11 +176,11 @@ fn read(row: &Row, offset: u64, length: u64) -> Result<Reply, Refusal> {
     Ok(issue(row, Operation::Read, offset, count))
 }
 
-fn write(mount: &Mount, kind: FileKind, row: &Row, offset: u64, length: u64) -> Result<Reply, Refusal> {
+fn write(block: u64, kind: FileKind, row: &Row, offset: u64, length: u64) -> Result<Reply, Refusal> {
     if !sum_within(offset, length, row.capacity) {
         return Err(Refusal::BeyondCapacity);
     }
-    let aligned = offset.is_multiple_of(mount.block) && length.is_multiple_of(mount.block);
+    let aligned = offset.is_multiple_of(block) && length.is_multiple_of(block);
     if kind == FileKind::Sequential && !(aligned && offset == row.size) {
         return Err(Refusal::NotAppending);
     }

@@ -1,63 +1,86 @@
 //! Digesting a completion: success, or failure with the zone's record.
 
-use super::calls::{decide, Reply, Request};
+use super::calls::{decide_unmarked, Reply, Request};
+use super::tape::Named;
 use super::types::{
-    sum_within, Access, Command, Condition, FileKind, Held, Mount, Operation, Policy, Reason, Refusal, Row,
-    Volume, SECTOR,
+    sum_within, Access, Command, Condition, FileKind, Held, Operation, Policy, Reason, Refusal, Row, Volume,
+    SECTOR,
 };
 use super::zone::{Zone, RECORD};
 
 impl Volume {
-    /// The command was done: gives the count of a read or write, else 0.
-    pub fn succeed(&mut self) -> Result<u64, Refusal> {
-        let (held, _) = self.checked_held()?;
-        let Held { kind, number, command } = held;
-        let row = self.row_mut(kind, number);
-        match command.operation {
-            Operation::Write if kind == FileKind::Sequential => row.size += command.length,
-            Operation::Reset => row.size = 0,
-            Operation::Finish => row.size = row.capacity,
-            Operation::Read | Operation::Write | Operation::Flush => {}
-        }
-        self.mount.held = None;
+    /// The file's command was done: gives the count of a read or write, else 0.
+    pub fn succeed(&mut self, kind: FileKind, number: u32) -> Result<u64, Refusal> {
+        let (row, command) = self.checked_command(kind, number)?;
+        let size = match command.operation {
+            Operation::Write if kind == FileKind::Sequential => row.size + command.length,
+            Operation::Reset => 0,
+            Operation::Finish => row.capacity,
+            Operation::Read | Operation::Write | Operation::Flush => row.size,
+        };
+        *self.row_mut(kind, number) = Row { size, held: Held::Nothing, ..row };
         Ok(command.length)
     }
 
-    /// The disk failed the command and reports a zone. `Ok` is answer 7, with the file's new size.
-    pub fn fail(&mut self, record: &[u8], capacity_given: bool) -> Result<u64, Refusal> {
-        let (held, row) = self.checked_held()?;
+    /// The disk failed the file's command and reports a zone. `Ok` is answer 7, with the file's new size.
+    pub fn fail(
+        &mut self,
+        kind: FileKind,
+        number: u32,
+        record: &[u8],
+        capacity_given: bool,
+    ) -> Result<u64, Refusal> {
+        let (row, command) = self.checked_command(kind, number)?;
         if record.len() != RECORD {
             return Err(Refusal::RecordMismatch(Reason::NoRecord));
         }
         let zone = Zone::decode(record, capacity_given);
         // The record's own faults come first; it need not start where another zone ended.
-        let reason = zone.fault(self.mount.block).or_else(|| mismatch(&zone, held.kind, &row));
+        let reason = zone.fault(self.mount.block).or_else(|| mismatch(&zone, kind, &row));
         if let Some(reason) = reason {
             return Err(Refusal::RecordMismatch(reason));
         }
-        self.mount.held = None;
-        if needs_recovery(&held, &row, &zone) {
+        let mut after = row.idle();
+        if needs_recovery(command.operation, kind, &row, &zone) {
             let policy = self.mount.policy;
-            *self.row_mut(held.kind, held.number) = recover(policy, held.kind, &row, &zone);
+            after = recover(policy, kind, &after, &zone);
+            // What other files have outstanding stays so.
             self.mount.read_only |= policy == Policy::RemountReadOnly;
         }
-        Ok(self.row(held.kind, held.number).size)
+        *self.row_mut(kind, number) = after;
+        Ok(after.size)
     }
 
-    /// Checks 8 and 10. A held command on a file that isn't there is impossible (10), not unknown (1).
-    fn checked_held(&self) -> Result<(Held, Row), Refusal> {
-        let held = self.mount.held.ok_or(Refusal::NothingOutstanding)?;
-        let row = self.checked_row(held.kind, held.number).map_err(|_| Refusal::Impossible)?;
-        if !is_issuable(&self.mount, held.kind, &row, &held.command) {
+    /// The same for a completion as a tape has it. With a kind byte that no file has, there is no such file.
+    pub fn recorded_success(&mut self, named: &Named) -> Result<u64, Refusal> {
+        let (kind, number) = self.named_file(named)?;
+        self.succeed(kind, number)
+    }
+
+    /// On a tape the capacity is always given.
+    pub fn recorded_failure(&mut self, named: &Named, record: &[u8]) -> Result<u64, Refusal> {
+        let (kind, number) = self.named_file(named)?;
+        self.fail(kind, number, record, true)
+    }
+
+    /// What a completion checks before it looks at a record: 10 (counts), 1, 8, 10 (row, then the command).
+    fn checked_command(&self, kind: FileKind, number: u32) -> Result<(Row, Command), Refusal> {
+        if !self.existing_row(kind, number)?.held.is_outstanding() {
+            return Err(Refusal::NothingOutstanding);
+        }
+        let row = self.checked_row(kind, number)?;
+        let command = row.held.command().ok_or(Refusal::Impossible)?;
+        if !is_issuable(self.mount.block, kind, &row, &command) {
             return Err(Refusal::Impossible);
         }
-        Ok((held, row))
+        Ok((row, command))
     }
 }
 
 /// Whether some call on the file would issue this command. Its own address and length name the only
-/// candidate: a read that is cut at the size commands the same as the shorter read.
-fn is_issuable(mount: &Mount, kind: FileKind, row: &Row, command: &Command) -> bool {
+/// candidate: a read that is cut at the size commands the same as the shorter read. The mount's mark doesn't
+/// count, as another file's failure may have set it since.
+fn is_issuable(block: u64, kind: FileKind, row: &Row, command: &Command) -> bool {
     let Some(offset) = command.address.checked_sub(row.start * SECTOR) else {
         return false;
     };
@@ -68,7 +91,7 @@ fn is_issuable(mount: &Mount, kind: FileKind, row: &Row, command: &Command) -> b
         Operation::Finish => Request::Truncate { size: row.capacity },
         Operation::Flush => Request::Flush,
     };
-    decide(mount, kind, row, &request) == Ok(Reply::Issued(*command))
+    decide_unmarked(block, kind, row, &request) == Ok(Reply::Issued(*command))
 }
 
 /// Why a good zone can't be what the file's command failed on.
@@ -101,11 +124,10 @@ pub fn is_better(zone: &Zone, kind: FileKind, row: &Row) -> bool {
 }
 
 /// A read that failed in a healthy zone, of which as much is written as the file's size says, recovers nothing.
-fn needs_recovery(held: &Held, row: &Row, zone: &Zone) -> bool {
-    let size_agrees = held.kind == FileKind::Conventional
-        || (zone.health() == Condition::Healthy && row.size == zone.written());
-    let harmless =
-        held.command.operation == Operation::Read && zone.health() == Condition::Healthy && size_agrees;
+fn needs_recovery(operation: Operation, kind: FileKind, row: &Row, zone: &Zone) -> bool {
+    let size_agrees =
+        kind == FileKind::Conventional || (zone.health() == Condition::Healthy && row.size == zone.written());
+    let harmless = operation == Operation::Read && zone.health() == Condition::Healthy && size_agrees;
     !harmless
 }
 

@@ -1,6 +1,6 @@
 //! Mounting: checks 20 to 30, with 33 between 25 and 26, and the rows that the zones give.
 
-use super::types::{block_is_known, Access, Condition, Mount, Refusal, Row, SECTOR};
+use super::types::{block_is_known, Access, Condition, Held, Mount, Refusal, Row, SECTOR};
 use super::zone::Zone;
 use super::{options, superblock, zone};
 
@@ -39,7 +39,6 @@ pub fn mount(input: &Input, cnv: &mut [Row], seq: &mut [Row]) -> Result<Mount, R
         mode: super_block.mode,
         policy,
         read_only: false,
-        held: None,
         uuid: super_block.uuid,
     })
 }
@@ -76,5 +75,5 @@ fn conventional_row(run: &[Zone]) -> Row {
 fn row_at_mount(start: u64, capacity: u64, size: u64, healthy: bool) -> Row {
     let (condition, access) =
         if healthy { (Condition::Healthy, Access::Write) } else { (Condition::Offline, Access::None) };
-    Row { start, capacity, size, condition, access }
+    Row { start, capacity, size, condition, access, held: Held::Nothing }
 }

@@ -2,7 +2,7 @@
 
 use super::calls::Reply;
 use super::mount::{mount, Input};
-use super::tape::{CallRecord, Next, Reader, Record};
+use super::tape::{CallRecord, Named, Next, Reader, Record};
 use super::types::{Operation, Refusal, Row, Volume, MAX_FILES};
 
 /// A printed line, and where on the tape its record begins.
@@ -80,14 +80,14 @@ fn mount_line(input: &Input) -> (String, Option<Volume>) {
 fn answer(volume: &mut Volume, record: &Record) -> Option<String> {
     match record {
         Record::Call(call) => Some(call_line(volume, call)),
-        Record::Good => Some(match volume.succeed() {
-            Ok(count) => format!("OK 0 {count}"),
-            Err(refusal) => refusal_line("OK", refusal),
-        }),
-        Record::Failed(zone) => Some(match volume.fail(zone, true) {
-            Ok(size) => format!("NO 7 {size}"),
-            Err(refusal) => refusal_line("NO", refusal),
-        }),
+        Record::Good(file) => {
+            let answer = volume.recorded_success(file).map(|count| (0, count));
+            Some(completion_line("OK", file, answer))
+        }
+        Record::Failed(file, zone) => {
+            let answer = volume.recorded_failure(file, zone).map(|size| (7, size));
+            Some(completion_line("NO", file, answer))
+        }
         Record::Block(_) | Record::SuperBlock(_) | Record::Report(_) | Record::Options(_) => None,
     }
 }
@@ -104,8 +104,17 @@ fn call_line(volume: &mut Volume, record: &CallRecord) -> String {
     }
 }
 
-fn refusal_line(mark: &str, refusal: Refusal) -> String {
-    let mut line = format!("{mark} {}", refusal.number());
+/// The file stands between the mark and the answer, by kind and number as the record has them.
+fn completion_line(mark: &str, file: &Named, answer: Result<(u32, u64), Refusal>) -> String {
+    let front = format!("{mark} {} {}", file.kind, file.number);
+    match answer {
+        Ok((number, value)) => format!("{front} {number} {value}"),
+        Err(refusal) => refusal_line(&front, refusal),
+    }
+}
+
+fn refusal_line(front: &str, refusal: Refusal) -> String {
+    let mut line = format!("{front} {}", refusal.number());
     for value in refusal.values() {
         line.push_str(&format!(" {value}"));
     }

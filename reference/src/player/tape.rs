@@ -23,6 +23,33 @@ impl Verb {
     }
 }
 
+/// The file that a record names: any kind byte, and a number that there may not be.
+#[derive(Clone, Copy, Debug, PartialEq, Eq)]
+pub struct Named {
+    pub kind: u8,
+    pub number: u32,
+}
+
+impl Named {
+    pub fn of(kind: FileKind, number: u32) -> Named {
+        let kind = match kind {
+            FileKind::Conventional => 0,
+            FileKind::Sequential => 1,
+        };
+        Named { kind, number }
+    }
+
+    /// None for a kind byte that no file has.
+    pub fn file(&self) -> Option<(FileKind, u32)> {
+        let kind = match self.kind {
+            0 => FileKind::Conventional,
+            1 => FileKind::Sequential,
+            _ => return None,
+        };
+        Some((kind, self.number))
+    }
+}
+
 /// A call as the tape has it: any kind byte, and fields that its verb may not use.
 #[derive(Clone, Copy, Debug, PartialEq, Eq)]
 pub struct CallRecord {
@@ -34,14 +61,26 @@ pub struct CallRecord {
 }
 
 impl CallRecord {
+    /// With zero in the fields that aren't used.
+    pub fn of(call: &Call) -> CallRecord {
+        let (verb, offset, length) = match call.request {
+            Request::Read { offset, length } => (Verb::Read, offset, length),
+            Request::Write { offset, length } => (Verb::Write, offset, length),
+            Request::Truncate { size } => (Verb::Truncate, 0, size),
+            Request::Flush => (Verb::Flush, 0, 0),
+        };
+        let Named { kind, number } = Named::of(call.kind, call.number);
+        CallRecord { verb, kind, number, offset, length }
+    }
+
     /// None for a kind byte that no file has.
     pub fn call(&self) -> Option<Call> {
-        let kind = match self.kind {
-            0 => FileKind::Conventional,
-            1 => FileKind::Sequential,
-            _ => return None,
-        };
-        Some(Call { kind, number: self.number, request: self.request() })
+        let (kind, number) = self.named().file()?;
+        Some(Call { kind, number, request: self.request() })
+    }
+
+    pub fn named(&self) -> Named {
+        Named { kind: self.kind, number: self.number }
     }
 
     pub fn request(&self) -> Request {
@@ -62,8 +101,10 @@ pub enum Record<'a> {
     Report(&'a [u8]),
     Options(&'a [u8]),
     Call(CallRecord),
-    Good,
-    Failed(&'a [u8]),
+    /// The command of this file was done.
+    Good(Named),
+    /// The disk failed it, and reports a zone.
+    Failed(Named, &'a [u8]),
 }
 
 #[derive(Clone, Copy, Debug, PartialEq, Eq)]
@@ -120,8 +161,11 @@ fn decode(rest: &[u8]) -> Option<(Record<'_>, usize)> {
         b"WR" => (decode_call(Verb::Write, body)?, CALL_LENGTH),
         b"TR" => (decode_call(Verb::Truncate, body)?, CALL_LENGTH),
         b"FL" => (decode_call(Verb::Flush, body)?, CALL_LENGTH),
-        b"OK" => (Record::Good, 0),
-        b"NO" => (Record::Failed(body.get(..zone::RECORD)?), zone::RECORD),
+        b"OK" => (Record::Good(decode_named(body)?), NAMED_LENGTH),
+        b"NO" => {
+            let length = NAMED_LENGTH + zone::RECORD;
+            (Record::Failed(decode_named(body)?, body.get(NAMED_LENGTH..length)?), length)
+        }
         _ => return None,
     };
     Some((record, 2 + length))
@@ -135,11 +179,18 @@ fn report_length(header: &[u8]) -> usize {
     }
 }
 
-const CALL_LENGTH: usize = 21;
+/// A kind byte and a number.
+pub const NAMED_LENGTH: usize = 5;
+const CALL_LENGTH: usize = NAMED_LENGTH + 16;
+
+fn decode_named(body: &[u8]) -> Option<Named> {
+    let body = body.get(..NAMED_LENGTH)?;
+    Some(Named { kind: body[0], number: u32_at(body, 1) })
+}
 
 fn decode_call(verb: Verb, body: &[u8]) -> Option<Record<'static>> {
     let body = body.get(..CALL_LENGTH)?;
-    let (kind, number) = (body[0], u32_at(body, 1));
+    let Named { kind, number } = decode_named(body)?;
     let (offset, length) = (u64_at(body, 5), u64_at(body, 13));
     Some(Record::Call(CallRecord { verb, kind, number, offset, length }))
 }

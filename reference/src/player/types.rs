@@ -40,7 +40,7 @@ pub enum Policy {
     Repair,
 }
 
-/// One file: start in sectors, capacity and size in bytes.
+/// One file: start in sectors, capacity and size in bytes, and the command that it has outstanding.
 #[derive(Clone, Copy, Debug, PartialEq, Eq)]
 pub struct Row {
     pub start: u64,
@@ -48,13 +48,26 @@ pub struct Row {
     pub size: u64,
     pub condition: Condition,
     pub access: Access,
+    pub held: Held,
 }
 
 impl Row {
-    pub const EMPTY: Row =
-        Row { start: 0, capacity: 0, size: 0, condition: Condition::Healthy, access: Access::None };
+    pub const EMPTY: Row = Row {
+        start: 0,
+        capacity: 0,
+        size: 0,
+        condition: Condition::Healthy,
+        access: Access::None,
+        held: Held::Nothing,
+    };
+
+    /// The same file with nothing outstanding.
+    pub fn idle(&self) -> Row {
+        Row { held: Held::Nothing, ..*self }
+    }
 }
 
+/// The order is that of the codes.
 #[derive(Clone, Copy, Debug, PartialEq, Eq)]
 pub enum Operation {
     Read,
@@ -62,6 +75,20 @@ pub enum Operation {
     Reset,
     Finish,
     Flush,
+}
+
+impl Operation {
+    pub const ALL: [Operation; 5] =
+        [Operation::Read, Operation::Write, Operation::Reset, Operation::Finish, Operation::Flush];
+
+    pub fn code(self) -> u64 {
+        self as u64
+    }
+
+    /// None for a code that no command has.
+    pub fn of_code(code: u64) -> Option<Operation> {
+        Operation::ALL.into_iter().find(|operation| operation.code() == code)
+    }
 }
 
 /// A command to the disk: byte address and byte length.
@@ -72,14 +99,66 @@ pub struct Command {
     pub length: u64,
 }
 
-/// The outstanding command and the file whose call issued it.
+/// What a row holds: the last three of its words.
 #[derive(Clone, Copy, Debug, PartialEq, Eq)]
-pub struct Held {
+pub enum Held {
+    Nothing,
+    Command(Command),
+    /// A word that is no command's. No call leaves it, but a lent table may have it.
+    NoCommand {
+        word: u64,
+        address: u64,
+        length: u64,
+    },
+}
+
+impl Held {
+    /// The first word is 0 where nothing is held, and then the others aren't looked at; else it is 1 + the code.
+    pub fn of_words([word, address, length]: [u64; 3]) -> Held {
+        let Some(code) = word.checked_sub(1) else { return Held::Nothing };
+        match Operation::of_code(code) {
+            Some(operation) => Held::Command(Command { operation, address, length }),
+            None => Held::NoCommand { word, address, length },
+        }
+    }
+
+    /// As a row is stored: with nothing held all three are 0.
+    pub fn words(self) -> [u64; 3] {
+        match self {
+            Held::Nothing => [0; 3],
+            Held::Command(command) => [1 + command.operation.code(), command.address, command.length],
+            Held::NoCommand { word, address, length } => [word, address, length],
+        }
+    }
+
+    /// Whether anything is held, be it a command or not.
+    pub fn is_outstanding(self) -> bool {
+        self != Held::Nothing
+    }
+
+    pub fn command(self) -> Option<Command> {
+        match self {
+            Held::Command(command) => Some(command),
+            Held::Nothing | Held::NoCommand { .. } => None,
+        }
+    }
+}
+
+/// An outstanding command and the file whose call issued it.
+#[derive(Clone, Copy, Debug, PartialEq, Eq)]
+pub struct Outstanding {
     pub kind: FileKind,
     pub number: u32,
     pub command: Command,
 }
 
+impl Outstanding {
+    pub fn is_of(&self, kind: FileKind, number: u32) -> bool {
+        self.kind == kind && self.number == number
+    }
+}
+
+/// What a mount fixes, and the read-only mark.
 #[derive(Clone, Debug, PartialEq, Eq)]
 pub struct Mount {
     pub block: u64,
@@ -90,7 +169,6 @@ pub struct Mount {
     pub mode: u32,
     pub policy: Policy,
     pub read_only: bool,
-    pub held: Option<Held>,
     pub uuid: [u8; 16],
 }
 
@@ -126,6 +204,20 @@ impl Volume {
             FileKind::Conventional => &mut self.cnv[number as usize],
             FileKind::Sequential => &mut self.seq[number as usize],
         }
+    }
+
+    /// The command that a file has outstanding; None also for a file that isn't there.
+    pub fn outstanding(&self, kind: FileKind, number: u32) -> Option<Outstanding> {
+        let mut files = self.rows(kind).iter().take(self.files(kind));
+        let command = files.nth(number as usize)?.held.command()?;
+        Some(Outstanding { kind, number, command })
+    }
+
+    /// The commands of all files, by kind and number.
+    pub fn all_outstanding(&self) -> Vec<Outstanding> {
+        let of_kind =
+            |kind| (0..self.files(kind) as u32).filter_map(move |number| self.outstanding(kind, number));
+        of_kind(FileKind::Conventional).chain(of_kind(FileKind::Sequential)).collect()
     }
 }
 

@@ -1,13 +1,13 @@
 //! Follows a tape as the player does, for those that count what comes on it.
 
 use crate::player::play::{mount_volume, read_input};
-use crate::player::tape::{CallRecord, Next, Reader, Record};
-use crate::player::types::{Held, Reason, Refusal, Row, Volume};
+use crate::player::tape::{CallRecord, Named, Next, Reader, Record};
+use crate::player::types::{Outstanding, Reason, Refusal, Row, Volume};
 use crate::player::zone::{decode_report, Zone};
 
-/// A failed command's record that came while a command was held, and its answer.
+/// A failed command's record that came while its file had a command outstanding, and its answer.
 pub struct Failure<'a> {
-    pub held: Held,
+    pub held: Outstanding,
     pub before: &'a Volume,
     pub record: &'a [u8],
     pub answer: Result<u64, Refusal>,
@@ -18,6 +18,11 @@ impl Failure<'_> {
     /// The row of the command's file, in `before` or `after`.
     pub fn row<'a>(&self, volume: &'a Volume) -> &'a Row {
         volume.row(self.held.kind, self.held.number)
+    }
+
+    /// What the same failure is answered with other bytes in its record.
+    pub fn answer_with(&self, record: &[u8]) -> Result<u64, Refusal> {
+        self.before.clone().fail(self.held.kind, self.held.number, record, true)
     }
 }
 
@@ -52,17 +57,18 @@ pub trait Counter {
                     self.call(zones, &call, answered);
                 }
                 // The answer is compared elsewhere.
-                Record::Good => drop(volume.succeed()),
-                Record::Failed(bytes) => self.count_failure(&mut volume, bytes),
+                Record::Good(named) => drop(volume.recorded_success(&named)),
+                Record::Failed(named, bytes) => self.count_failure(&mut volume, &named, bytes),
                 Record::Block(_) | Record::SuperBlock(_) | Record::Report(_) | Record::Options(_) => return,
             }
         }
     }
 
-    fn count_failure(&mut self, volume: &mut Volume, record: &[u8]) {
-        let Some(held) = volume.mount.held else { return };
+    fn count_failure(&mut self, volume: &mut Volume, named: &Named, record: &[u8]) {
+        let file = named.file();
+        let Some(held) = file.and_then(|(kind, number)| volume.outstanding(kind, number)) else { return };
         let before = volume.clone();
-        let answer = volume.fail(record, true);
+        let answer = volume.recorded_failure(named, record);
         self.failure(&Failure { held, before: &before, record, answer, after: volume });
     }
 }

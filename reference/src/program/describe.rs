@@ -1,7 +1,7 @@
 //! A tape as text, for people.
 
 use crate::player::superblock;
-use crate::player::tape::{Next, Reader, Record, Verb};
+use crate::player::tape::{Named, Next, Reader, Record, Verb};
 use crate::player::types::{u32_at, u64_at};
 use crate::player::zone::{self, Zone};
 
@@ -40,21 +40,27 @@ fn record_text(record: &Record) -> String {
         Record::Report(bytes) => report_text(bytes),
         Record::Options(text) => format!("MO \"{}\"", text.escape_ascii()),
         Record::Call(call) => {
-            let kind = match call.kind {
-                0 => "cnv".to_string(),
-                1 => "seq".to_string(),
-                other => format!("kind {other} "),
-            };
-            let file = format!("{} {kind}/{}", call.verb.mark(), call.number);
+            let file = format!("{} {}", call.verb.mark(), file_text(&call.named()));
             match call.verb {
                 Verb::Read | Verb::Write => format!("{file} offset {} length {}", call.offset, call.length),
                 Verb::Truncate => format!("{file} size {}", call.length),
                 Verb::Flush => file,
             }
         }
-        Record::Good => "OK".to_string(),
-        Record::Failed(bytes) => format!("NO {}", zone_text(&Zone::decode(bytes, true))),
+        Record::Good(file) => format!("OK {}", file_text(file)),
+        Record::Failed(file, bytes) => {
+            format!("NO {} {}", file_text(file), zone_text(&Zone::decode(bytes, true)))
+        }
     }
+}
+
+fn file_text(file: &Named) -> String {
+    let kind = match file.kind {
+        0 => "cnv".to_string(),
+        1 => "seq".to_string(),
+        other => format!("kind {other} "),
+    };
+    format!("{kind}/{}", file.number)
 }
 
 fn super_block_text(bytes: &[u8]) -> String {

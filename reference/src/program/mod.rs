@@ -1,6 +1,7 @@
 //! What the command line offers beside playing and making tapes: comparing another player, showing a tape, checksums. And
 //! the counts of what came in a comparison, those of the formatter's cases among them.
 
+pub mod busy;
 pub mod compare;
 pub mod counter;
 pub mod describe;

@@ -61,7 +61,7 @@ impl Counter for Pointers {
         if failure.answer.is_err() {
             let mut full = failure.record.to_vec();
             full[25] = FULL;
-            let still_bad = failure.before.clone().fail(&full, true).is_err();
+            let still_bad = failure.answer_with(&full).is_err();
             self.count(Case::PastCapacityInRecord, is_past_capacity(&zone) && !still_bad);
             return;
         }
@@ -89,7 +89,8 @@ impl Pointers {
 
     /// Under repair a row that has its capacity stays as it is with a recovery too, so that shows nothing.
     fn count_stray_read(&mut self, policy: Policy, zone: &Zone, before: &Row, after: &Row) {
-        let (as_before, was_full) = (before == after, before.size == before.capacity);
+        // The command went in any case.
+        let (as_before, was_full) = (before.idle() == *after, before.size == before.capacity);
         let at_size = stands_at(zone, before.size / SECTOR);
         self.count(Case::StrayReadAsBefore, as_before && was_full && policy != Policy::Repair);
         self.count(Case::StrayReadRecovers, !as_before && !was_full);

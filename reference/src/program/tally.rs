@@ -1,7 +1,9 @@
-//! What a comparison has reached: answers by mark, perms, pointers, reasons, and the consistency check's own numbers.
+//! What a comparison has reached: answers by mark, perms, pointers, reasons, busy files, and the consistency check's own
+//! numbers.
 
 use std::collections::BTreeMap;
 
+use super::busy::{self, Busy};
 use super::counter::Counter;
 use super::perms::{self, Perms};
 use super::pointers::{self, Pointers};
@@ -17,8 +19,8 @@ const EXPECTED: [(&str, &[&str]); 8] = [
     ("WR", &["W", "D", "1", "2", "3", "4", "5", "6"]),
     ("TR", &["Z", "F", "D", "1", "2", "3", "4"]),
     ("FL", &["S", "1", "2", "3", "4"]),
-    ("OK", &["0", "8"]),
-    ("NO", &["7", "8", "9"]),
+    ("OK", &["0", "1", "8"]),
+    ("NO", &["1", "7", "8", "9"]),
     ("??", &["40"]),
 ];
 
@@ -35,6 +37,8 @@ pub struct Tally {
     pub pointers: Pointers,
     /// What 29 and 9 said was bad.
     pub reasons: Reasons,
+    /// Files with commands outstanding at the same time, by what came of that.
+    pub busy: Busy,
     /// What the consistency check saw while the tapes were made.
     pub compared: Compared,
 }
@@ -44,7 +48,9 @@ impl Tally {
     pub fn count_line(&mut self, line: &str) {
         let mut words = line.split(' ');
         let mark = words.next().unwrap_or("").to_string();
-        let answer = words.next().unwrap_or("");
+        // A completion's kind and number stand before its answer.
+        let named = if mark == "OK" || mark == "NO" { 2 } else { 0 };
+        let answer = words.nth(named).unwrap_or("");
         let letter = words.next().filter(|word| word.chars().all(|c| c.is_ascii_uppercase()));
         let answer = if answer == "0" { letter.unwrap_or("0") } else { answer };
         *self.answers.entry((mark, answer.to_string())).or_default() += 1;
@@ -56,6 +62,7 @@ impl Tally {
         self.perms.count_tape(tape);
         self.pointers.count_tape(tape);
         self.reasons.count_tape(tape);
+        self.busy.count_tape(tape);
     }
 
     pub fn add(&mut self, other: &Tally) {
@@ -66,6 +73,7 @@ impl Tally {
         self.perms.add(&other.perms);
         self.pointers.add(&other.pointers);
         self.reasons.add(&other.reasons);
+        self.busy.add(&other.busy);
         for (key, count) in &other.answers {
             *self.answers.entry(key.clone()).or_default() += count;
         }
@@ -83,7 +91,8 @@ impl Tally {
         }
         let perms = perms::CASE_NAMES.iter().zip(self.perms.counts);
         let pointers = pointers::CASE_NAMES.iter().zip(self.pointers.counts);
-        for (name, _) in perms.chain(pointers).filter(|(_, count)| *count == 0) {
+        let busy = busy::CASE_NAMES.iter().zip(self.busy.counts);
+        for (name, _) in perms.chain(pointers).chain(busy).filter(|(_, count)| *count == 0) {
             missing.push(name.to_string());
         }
         missing.extend(self.reasons.missing());
@@ -94,6 +103,9 @@ impl Tally {
             for (name, _) in FREEDOM_NAMES.iter().zip(counts).filter(|(_, count)| *count == 0) {
                 missing.push(format!("a true {what} with {name}"));
             }
+        }
+        if self.compared.rows_beside == 0 {
+            missing.push("a row compared while another file is busy".to_string());
         }
         if self.compared.impossible == 0 {
             missing.push("a completion answered 10".to_string());
@@ -145,13 +157,15 @@ impl Tally {
     /// One line on a comparison.
     pub fn summary(&self) -> String {
         let answers = self.answers_text();
-        let Compared { states, rows, exceptions, failures, records, reports, impossible } = self.compared;
+        let Compared { states, rows, rows_beside, exceptions, failures, records, reports, impossible } =
+            self.compared;
         let (exceptions, records, reports) =
             (counts_text(&exceptions), counts_text(&records), counts_text(&reports));
         let (perms, pointers) = (counts_text(&self.perms.counts), counts_text(&self.pointers.counts));
+        let busy = counts_text(&self.busy.counts);
         let reasons = self.reasons_text();
         format!(
-            "{} tapes, {} lines alike ({answers}), nonzero exits {}; fresh mounts {states}, rows {rows}, exceptions {exceptions}, failures {failures}, other bytes in records {records} and in reports {reports}, copies answered 10 {impossible}, perms {perms}, pointers {pointers}, {reasons}",
+            "{} tapes, {} lines alike ({answers}), nonzero exits {}; fresh mounts {states}, rows {rows}, those beside a busy file {rows_beside}, exceptions {exceptions}, failures {failures}, other bytes in records {records} and in reports {reports}, copies answered 10 {impossible}, perms {perms}, pointers {pointers}, busy files {busy}, {reasons}",
             self.tapes, self.lines, self.exits
         )
     }

@@ -1,9 +1,9 @@
 //! Which answers a run may have, on answers that are made up here.
 
 use super::*;
-use crate::disk::answers::{call_fault, completion_fault};
-use crate::player::calls::Reply::Done;
-use crate::player::types::Reason;
+use crate::disk::answers::{call_fault, call_moved, completion_fault, Found};
+use crate::player::calls::Reply::{Done, Issued};
+use crate::player::types::{Command, Held, Operation, Reason};
 
 /// The refusal with each number that a call or a completion can have.
 const REFUSALS: [Refusal; 9] = [
@@ -19,47 +19,91 @@ const REFUSALS: [Refusal; 9] = [
 ];
 
 #[test]
-fn calls_on_a_file_that_is_there() {
-    assert_eq!(call_fault(true, &Ok(Done(0)), true), None);
+fn calls_on_an_idle_file() {
+    assert_eq!(call_fault(Found::Idle, &Ok(Done(0))), None);
     for refusal in REFUSALS {
         let number = refusal.number();
-        let fault = call_fault(true, &Err(refusal), false);
-        if (2..=6).contains(&number) {
+        let fault = call_fault(Found::Idle, &Err(refusal));
+        if (3..=6).contains(&number) {
             assert_eq!(fault, None);
         } else {
-            assert_eq!(fault, Some(format!("a call on a file that is there is answered {number}")));
+            assert_eq!(fault, Some(format!("a call on an idle file is answered {number}")));
         }
+    }
+}
+
+/// 2, and nothing else: it comes before all that looks at the arguments.
+#[test]
+fn calls_on_a_busy_file() {
+    assert_eq!(call_fault(Found::Busy, &Err(Refusal::Outstanding)), None);
+    let others = REFUSALS.into_iter().filter(|&refusal| refusal != Refusal::Outstanding).map(Err);
+    for answer in others.chain([Ok(Done(0)), Ok(FLUSH)]) {
+        let number = number(answer);
+        let expected = format!("a call on a busy file is answered {number}");
+        assert_eq!(call_fault(Found::Busy, &answer), Some(expected));
     }
 }
 
 #[test]
 fn calls_on_a_file_that_is_not_there() {
-    assert_eq!(call_fault(false, &Err(Refusal::NoSuchFile), false), None);
+    assert_eq!(call_fault(Found::NoFile, &Err(Refusal::NoSuchFile)), None);
     for answer in [Ok(Done(0)), Err(Refusal::Outstanding), Err(Refusal::Impossible)] {
-        let fault = call_fault(false, &answer, false).unwrap();
+        let fault = call_fault(Found::NoFile, &answer).unwrap();
         let number = number(answer);
         assert_eq!(fault, format!("a call on a file that isn't there is answered {number}"));
     }
 }
 
+/// The command of a flush of seq/0.
+const FLUSH: Reply = Issued(Command { operation: Operation::Flush, address: 805306368, length: 0 });
+
+/// Ways in which a volume may differ from the sheet with nothing outstanding.
+const CHANGES: [fn(&mut Volume); 6] = [
+    |volume| volume.mount.read_only = true,
+    |volume| volume.seq[0].size = 0,
+    |volume| volume.cnv[1].start += 8,
+    |volume| volume.seq[1021].start = 1,
+    |volume| volume.seq[1].held = Held::of_words([5, 1073741824, 0]),
+    |volume| volume.cnv[0].held = Held::of_words([9, 0, 0]),
+];
+
 #[test]
-fn a_refused_call_moves_nothing() {
-    for refusal in REFUSALS {
-        assert!(call_fault(refusal != Refusal::NoSuchFile, &Err(refusal), true).is_some(), "{refusal:?}");
+fn only_an_issued_command_moves_something() {
+    let idle = sheet();
+    let mut busy = sheet();
+    busy.call(&flush(SEQ, 0)).unwrap();
+    assert_eq!(call_moved(&seq(0), &Ok(FLUSH), &idle, &busy), None);
+    let beside = Some("a call moved something beside the command in its row".to_string());
+    assert_eq!(call_moved(&seq(0), &Ok(FLUSH), &idle, &idle), beside);
+    assert_eq!(call_moved(&seq(1), &Ok(FLUSH), &idle, &busy), beside);
+    let at_once = Some("a call that was answered at once moved something".to_string());
+    assert_eq!(call_moved(&seq(0), &Ok(Done(0)), &idle, &idle), None);
+    assert_eq!(call_moved(&seq(0), &Ok(Done(0)), &idle, &busy), at_once);
+    for change in CHANGES {
+        let (mut after_busy, mut after_idle) = (busy.clone(), idle.clone());
+        change(&mut after_busy);
+        change(&mut after_idle);
+        assert_eq!(call_moved(&seq(0), &Ok(FLUSH), &idle, &after_busy), beside);
+        assert_eq!(call_moved(&seq(0), &Ok(Done(0)), &idle, &after_idle), at_once);
+        for refusal in REFUSALS {
+            let refused = format!("a refused call (answered {}) moved something", refusal.number());
+            assert_eq!(call_moved(&seq(0), &Err(refusal), &idle, &idle), None);
+            assert_eq!(call_moved(&seq(0), &Err(refusal), &idle, &after_idle), Some(refused));
+        }
     }
-    let fault = call_fault(false, &Err(Refusal::NoSuchFile), true);
-    assert_eq!(fault.as_deref(), Some("a refused call (answered 1) moved something"));
 }
 
 #[test]
-fn a_digested_completion_leaves_nothing_outstanding() {
+fn a_digested_completion_leaves_nothing_outstanding_on_its_file() {
     let idle = sheet();
     let mut busy = sheet();
     busy.call(&flush(SEQ, 0)).unwrap();
     for answer in [0, 7] {
-        assert_eq!(completion_fault(answer, answer, &busy, &idle), None);
-        let left = format!("is answered {answer} and leaves a command outstanding");
-        assert_eq!(completion_fault(answer, answer, &busy, &busy), Some(left));
+        assert_eq!(completion_fault(&seq(0), answer, answer, &busy, &idle), None);
+        let left = format!("is answered {answer} and leaves the file's command outstanding");
+        assert_eq!(completion_fault(&seq(0), answer, answer, &busy, &busy), Some(left));
+        // Another file's stays, as it must.
+        assert_eq!(completion_fault(&seq(1), answer, answer, &busy, &busy), None);
     }
 }
 
@@ -67,20 +111,14 @@ fn a_digested_completion_leaves_nothing_outstanding() {
 fn a_refused_completion_moves_nothing() {
     let mut busy = sheet();
     busy.call(&flush(SEQ, 0)).unwrap();
-    let changes: [fn(&mut Volume); 5] = [
-        |volume| volume.mount.held = None,
-        |volume| volume.mount.read_only = true,
-        |volume| volume.seq[0].size = 0,
-        |volume| volume.cnv[1].start += 8,
-        |volume| volume.seq[1021].start = 1,
-    ];
-    for answer in [8, 9, 10] {
-        assert_eq!(completion_fault(answer, answer, &busy, &busy), None);
-        for change in changes {
+    let lost: fn(&mut Volume) = |volume| volume.seq[0].held = Held::Nothing;
+    for answer in [1, 8, 9, 10] {
+        assert_eq!(completion_fault(&seq(0), answer, answer, &busy, &busy), None);
+        for change in CHANGES.into_iter().chain([lost]) {
             let mut after = busy.clone();
             change(&mut after);
             let moved = format!("is answered {answer} and moved something");
-            assert_eq!(completion_fault(answer, answer, &busy, &after), Some(moved));
+            assert_eq!(completion_fault(&seq(0), answer, answer, &busy, &after), Some(moved));
         }
     }
 }
@@ -88,11 +126,11 @@ fn a_refused_completion_moves_nothing() {
 #[test]
 fn a_completion_has_one_answer() {
     let idle = sheet();
-    let answers = [0, 7, 8, 9, 10];
+    let answers = [0, 1, 7, 8, 9, 10];
     for must_be in answers {
         for answer in answers.into_iter().filter(|&answer| answer != must_be) {
             let other = format!("is answered {answer} and not {must_be}");
-            assert_eq!(completion_fault(must_be, answer, &idle, &idle), Some(other));
+            assert_eq!(completion_fault(&seq(0), must_be, answer, &idle, &idle), Some(other));
         }
     }
 }

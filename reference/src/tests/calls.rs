@@ -10,7 +10,7 @@ fn numbers_one_to_six() {
     assert_eq!(number(sheet().call(&flush(SEQ, u32::MAX))), 1);
     let mut busy = sheet();
     busy.call(&flush(SEQ, 1)).unwrap();
-    assert_eq!(number(busy.call(&read(SEQ, 0, 0, 0))), 2);
+    assert_eq!(number(busy.call(&read(SEQ, 1, 0, 0))), 2);
     assert_eq!(number(busy.call(&read(SEQ, 2, 0, 0))), 1);
     let mut read_only = sheet();
     read_only.mount.read_only = true;
@@ -98,7 +98,7 @@ fn impossible_rows() {
     ];
     for (index, change) in broken.iter().enumerate() {
         let mut volume = sheet();
-        volume.call(&flush(SEQ, 1)).unwrap();
+        volume.call(&flush(SEQ, 0)).unwrap();
         change(&mut volume.seq[0]);
         assert_eq!(number(volume.call(&flush(SEQ, 0))), 10, "change {index}");
         assert_eq!(number(volume.call(&flush(SEQ, 7))), 1, "change {index}");

@@ -22,8 +22,8 @@ fn conventional(condition: u8) -> [u8; 64] {
 
 #[test]
 fn nothing_outstanding() {
-    assert_eq!(sheet().succeed(), Err(Refusal::NothingOutstanding));
-    assert_eq!(sheet().fail(&[], true), Err(Refusal::NothingOutstanding));
+    assert_eq!(sheet().succeed(SEQ, 0), Err(Refusal::NothingOutstanding));
+    assert_eq!(sheet().fail(SEQ, 0, &[], true), Err(Refusal::NothingOutstanding));
 }
 
 #[test]
@@ -38,13 +38,13 @@ fn success() {
     for (call, count, size) in cases {
         let mut volume = sheet();
         volume.call(&call).unwrap();
-        assert_eq!(volume.succeed(), Ok(count));
-        assert_eq!((volume.seq[0].size, volume.mount.held), (size, None));
+        assert_eq!(volume.succeed(SEQ, 0), Ok(count));
+        assert_eq!(volume.seq[0], Row { size, ..sheet().seq[0] });
     }
     let mut volume = sheet();
     volume.call(&write(CNV, 1, 0, 5)).unwrap();
-    assert_eq!(volume.succeed(), Ok(5));
-    assert_eq!(volume.cnv[1].size, 268435456);
+    assert_eq!(volume.succeed(CNV, 1), Ok(5));
+    assert_eq!(volume.cnv[1], sheet().cnv[1]);
 }
 
 /// The whole table, for a failed write of which one block landed, in zone 3 and in the second cnv file.
@@ -67,18 +67,18 @@ fn recovery_table() {
             let mut volume = sheet_under(options);
             let before = volume.clone();
             volume.call(&write(SEQ, 0, 4096, 8192)).unwrap();
-            assert_eq!(volume.fail(&sequential(1572880, [2, 13, 15][index]), true), Ok(size));
+            assert_eq!(volume.fail(SEQ, 0, &sequential(1572880, [2, 13, 15][index]), true), Ok(size));
             assert_eq!(
                 volume.seq[0],
                 Row { size, access, condition, ..before.seq[0] },
                 "{options} {condition:?}"
             );
             assert_eq!(volume.mount.read_only, *options == "errors=remount-ro");
-            assert_eq!((volume.mount.held, &volume.cnv, volume.seq[1]), (None, &before.cnv, before.seq[1]));
+            assert_eq!((&volume.cnv, volume.seq[1]), (&before.cnv, before.seq[1]));
 
             let mut volume = sheet_under(options);
             volume.call(&write(CNV, 1, 4096, 8192)).unwrap();
-            assert_eq!(volume.fail(&conventional([0, 13, 15][index]), true), Ok(cnv_size));
+            assert_eq!(volume.fail(CNV, 1, &conventional([0, 13, 15][index]), true), Ok(cnv_size));
             assert_eq!(volume.cnv[1], Row { size: cnv_size, access, condition, ..before.cnv[1] });
         }
     }
@@ -90,10 +90,10 @@ fn failed_read_that_finds_all_well_recovers_nothing() {
         let mut volume = sheet_under(options);
         let before = volume.clone();
         volume.call(&read(SEQ, 0, 0, 4096)).unwrap();
-        assert_eq!(volume.fail(&sequential(1572872, 2), true), Ok(4096));
+        assert_eq!(volume.fail(SEQ, 0, &sequential(1572872, 2), true), Ok(4096));
         assert_eq!(volume, before);
         volume.call(&read(CNV, 1, 0, 4096)).unwrap();
-        assert_eq!(volume.fail(&conventional(0), true), Ok(268435456));
+        assert_eq!(volume.fail(CNV, 1, &conventional(0), true), Ok(268435456));
         assert_eq!(volume, before);
     }
 }
@@ -102,10 +102,10 @@ fn failed_read_that_finds_all_well_recovers_nothing() {
 fn failed_read_that_finds_something_recovers() {
     let mut volume = sheet();
     volume.call(&read(SEQ, 0, 0, 4096)).unwrap();
-    assert_eq!(volume.fail(&sequential(1572864, 1), true), Ok(0));
+    assert_eq!(volume.fail(SEQ, 0, &sequential(1572864, 1), true), Ok(0));
     let mut volume = sheet_under("");
     volume.call(&read(SEQ, 0, 0, 4096)).unwrap();
-    assert_eq!(volume.fail(&sequential(0, 13), true), Ok(4096));
+    assert_eq!(volume.fail(SEQ, 0, &sequential(0, 13), true), Ok(4096));
     assert!(volume.mount.read_only);
     assert_eq!(volume.seq[0].access, Access::Read);
 }
@@ -115,7 +115,7 @@ fn access_never_rises() {
     let mut volume = sheet();
     volume.seq[0].access = Access::Read;
     volume.call(&read(SEQ, 0, 0, 4096)).unwrap();
-    assert_eq!(volume.fail(&sequential(1572864, 1), true), Ok(0));
+    assert_eq!(volume.fail(SEQ, 0, &sequential(1572864, 1), true), Ok(0));
     assert_eq!(volume.seq[0].access, Access::Read);
 }
 
@@ -139,11 +139,11 @@ fn records_that_do_not_fit() {
         (zone(S, 1 << 40, S + 8, 2, 2, 393216), Reason::End),
     ];
     for (zone, reason) in bad {
-        assert_eq!(volume.fail(&record(&zone), true), mismatch(reason), "{zone:?}");
+        assert_eq!(volume.fail(SEQ, 0, &record(&zone), true), mismatch(reason), "{zone:?}");
     }
-    assert_eq!(volume.fail(&sequential(1572880, 2)[..63], true), mismatch(Reason::NoRecord));
+    assert_eq!(volume.fail(SEQ, 0, &sequential(1572880, 2)[..63], true), mismatch(Reason::NoRecord));
     // Without the flag the capacity is the length, which isn't the row's.
-    assert_eq!(volume.fail(&sequential(1572880, 2), false), mismatch(Reason::OtherZone));
+    assert_eq!(volume.fail(SEQ, 0, &sequential(1572880, 2), false), mismatch(Reason::OtherZone));
     assert_eq!(volume, before);
 }
 
@@ -159,10 +159,14 @@ fn a_bad_pointer_does_not_fit_unless_the_zone_is_full() {
             let mut volume = sheet();
             volume.call(&write(SEQ, 0, 4096, 8192)).unwrap();
             let before = volume.clone();
-            let answer = volume.fail(&sequential(pointer, condition), true);
+            let answer = volume.fail(SEQ, 0, &sequential(pointer, condition), true);
             assert_eq!(answer, mismatch(Reason::Pointer), "pointer {pointer} condition {condition}");
             assert_eq!(volume, before);
-            assert_eq!(volume.fail(&sequential(pointer, 14), true), Ok(201326592), "pointer {pointer}");
+            assert_eq!(
+                volume.fail(SEQ, 0, &sequential(pointer, 14), true),
+                Ok(201326592),
+                "pointer {pointer}"
+            );
         }
     }
 }
@@ -173,8 +177,8 @@ fn a_good_pointer_counts_unless_the_zone_is_full() {
         for condition in 1..=4 {
             let mut volume = sheet();
             volume.call(&write(SEQ, 0, 4096, 8192)).unwrap();
-            assert_eq!(volume.clone().fail(&sequential(pointer, condition), true), Ok(size));
-            assert_eq!(volume.fail(&sequential(pointer, 14), true), Ok(201326592));
+            assert_eq!(volume.clone().fail(SEQ, 0, &sequential(pointer, condition), true), Ok(size));
+            assert_eq!(volume.fail(SEQ, 0, &sequential(pointer, 14), true), Ok(201326592));
         }
     }
 }
@@ -197,10 +201,14 @@ fn a_full_record_recovers_to_the_capacity() {
                     let before = volume.clone();
                     volume.call(&call).unwrap();
                     let full = record(&zone(1572864, 524288, pointer, kind, 14, 393216));
-                    assert_eq!(volume.fail(&full, true), Ok(size), "{options} {call:?} pointer {pointer}");
+                    assert_eq!(
+                        volume.fail(SEQ, 0, &full, true),
+                        Ok(size),
+                        "{options} {call:?} pointer {pointer}"
+                    );
                     assert_eq!(volume.seq[0], Row { size, access, ..before.seq[0] });
                     assert_eq!(volume.mount.read_only, options == "errors=remount-ro");
-                    assert_eq!((volume.mount.held, volume.seq[1]), (None, before.seq[1]));
+                    assert_eq!(volume.seq[1], before.seq[1]);
                 }
             }
         }
@@ -217,7 +225,7 @@ fn a_failed_read_of_a_full_file_that_is_full_recovers_nothing() {
             let mut volume = mount_volume(&input_with(0, options, &zones)).unwrap();
             let before = volume.clone();
             volume.call(&read(SEQ, 0, 0, 4096)).unwrap();
-            assert_eq!(volume.fail(&sequential(in_record, 14), true), Ok(201326592));
+            assert_eq!(volume.fail(SEQ, 0, &sequential(in_record, 14), true), Ok(201326592));
             assert_eq!(volume, before, "{options}, pointers {at_mount} and {in_record}");
         }
     }
@@ -229,11 +237,11 @@ fn a_failed_read_of_a_shorter_file_whose_zone_is_full_recovers() {
     for pointer in [1572872, 0, 1572864, 1966080, u64::MAX] {
         let mut volume = sheet_under("errors=zone-ro");
         volume.call(&read(SEQ, 0, 0, 4096)).unwrap();
-        assert_eq!(volume.fail(&sequential(pointer, 14), true), Ok(201326592), "pointer {pointer}");
+        assert_eq!(volume.fail(SEQ, 0, &sequential(pointer, 14), true), Ok(201326592), "pointer {pointer}");
         assert_eq!((volume.seq[0].size, volume.seq[0].access), (201326592, Access::Read));
         let mut volume = sheet_under("errors=remount-ro");
         volume.call(&read(SEQ, 0, 0, 4096)).unwrap();
-        assert_eq!(volume.fail(&sequential(pointer, 14), true), Ok(201326592));
+        assert_eq!(volume.fail(SEQ, 0, &sequential(pointer, 14), true), Ok(201326592));
         assert!(volume.mount.read_only);
     }
 }
@@ -249,7 +257,7 @@ fn a_failed_read_of_a_full_file_whose_zone_has_its_pointer() {
             zones[3] = zone(1572864, 524288, 0, 2, 14, 393216);
             let mut volume = mount_volume(&input_with(0, "errors=zone-ro", &zones)).unwrap();
             volume.call(&read(SEQ, 0, 0, 4096)).unwrap();
-            assert_eq!(volume.fail(&sequential(pointer, condition), true), Ok(size));
+            assert_eq!(volume.fail(SEQ, 0, &sequential(pointer, condition), true), Ok(size));
             assert_eq!(volume.seq[0].access, access);
         }
     }
@@ -262,7 +270,7 @@ fn a_full_record_does_not_better_a_zone() {
     volume.seq[0].condition = Condition::ReadOnly;
     volume.seq[0].access = Access::Read;
     volume.call(&read(SEQ, 0, 0, 4096)).unwrap();
-    assert_eq!(volume.fail(&sequential(0, 14), true), mismatch(Reason::BetterCondition));
+    assert_eq!(volume.fail(SEQ, 0, &sequential(0, 14), true), mismatch(Reason::BetterCondition));
 }
 
 #[test]
@@ -271,13 +279,13 @@ fn conventional_records_lie_within_the_file() {
     volume.call(&write(CNV, 0, 0, 5)).unwrap();
     for (start, length) in [(0, 524288), (524288 - 8, 16), (1048576, 524296), (1572864, 8)] {
         let zone = zone(start, length, 0, 1, 0, length);
-        assert_eq!(volume.fail(&record(&zone), true), mismatch(Reason::OtherZone), "{zone:?}");
+        assert_eq!(volume.fail(CNV, 0, &record(&zone), true), mismatch(Reason::OtherZone), "{zone:?}");
     }
     let past_every_disk = zone(u64::MAX - 7, 16, 0, 1, 0, 16);
-    assert_eq!(volume.fail(&record(&past_every_disk), true), mismatch(Reason::End));
+    assert_eq!(volume.fail(CNV, 0, &record(&past_every_disk), true), mismatch(Reason::End));
     for (start, length) in [(524288, 1048576), (1572856, 8), (524289, 8)] {
         let zone = zone(start, length, 0, 1, 13, length);
-        assert_eq!(volume.clone().fail(&record(&zone), true), Ok(536870912), "{zone:?}");
+        assert_eq!(volume.clone().fail(CNV, 0, &record(&zone), true), Ok(536870912), "{zone:?}");
     }
 }
 
@@ -287,8 +295,8 @@ fn a_sequential_zone_does_not_get_better() {
     volume.seq[0].condition = Condition::ReadOnly;
     volume.seq[0].access = Access::Read;
     volume.call(&read(SEQ, 0, 0, 4096)).unwrap();
-    assert_eq!(volume.fail(&sequential(1572872, 2), true), mismatch(Reason::BetterCondition));
-    assert_eq!(volume.fail(&sequential(1572872, 13), true), Ok(4096));
+    assert_eq!(volume.fail(SEQ, 0, &sequential(1572872, 2), true), mismatch(Reason::BetterCondition));
+    assert_eq!(volume.fail(SEQ, 0, &sequential(1572872, 13), true), Ok(4096));
     assert_eq!(volume.seq[0].condition, Condition::ReadOnly);
 }
 
@@ -296,11 +304,10 @@ fn a_sequential_zone_does_not_get_better() {
 #[test]
 fn impossible_held_commands() {
     let held = |number, operation, address, length| {
-        let command = Command { operation, address, length };
         let mut volume = sheet();
-        volume.mount.held = Some(Held { kind: SEQ, number, command });
+        volume.seq[number as usize].held = Held::Command(Command { operation, address, length });
         let before = volume.clone();
-        let answers = (volume.succeed(), volume.fail(&[], true));
+        let answers = (volume.succeed(SEQ, number), volume.fail(SEQ, number, &[], true));
         if answers.0.is_err() {
             assert_eq!(volume, before);
         }
@@ -308,7 +315,6 @@ fn impossible_held_commands() {
     };
     let impossible = (Err(Refusal::Impossible), Err(Refusal::Impossible));
     const A: u64 = 805306368;
-    assert_eq!(held(9, Operation::Flush, A, 0), impossible);
     assert_eq!(held(0, Operation::Flush, A, 4096), impossible);
     assert_eq!(held(0, Operation::Flush, A + 512, 0), impossible);
     assert_eq!(held(0, Operation::Flush, A - 512, 0), impossible);
@@ -317,6 +323,7 @@ fn impossible_held_commands() {
     assert_eq!(held(0, Operation::Write, A, 4096), impossible);
     assert_eq!(held(0, Operation::Write, A + 4096, 201326592), impossible);
     assert_eq!(held(1, Operation::Reset, 1073741824, 0), impossible);
+    assert_eq!(held(1, Operation::Finish, A, 0), impossible);
     assert_eq!(held(0, Operation::Read, A + 4095, 1).0, Ok(1));
     assert_eq!(held(0, Operation::Finish, A, 0).0, Ok(0));
 }

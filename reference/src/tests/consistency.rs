@@ -24,7 +24,7 @@ fn begin(options: &str) -> Run {
 
 fn issue_and_do(run: &mut Run, call: &Call, choice: &Choice) {
     run.call(call).unwrap();
-    assert!(run.doing(choice, own).unwrap().is_some());
+    assert!(run.doing(call.kind, call.number, choice, own).unwrap().is_some());
 }
 
 /// A zone in the disk's own bytes.
@@ -77,18 +77,19 @@ fn a_repaired_file_equals_the_fresh_one() {
     assert_eq!(run.compared.exceptions, [0, 0, 0]);
 }
 
-/// Neither a good read nor an idle completion makes a file quiet: nothing is compared until one that does.
+/// Neither a good read nor a stray completion makes a file quiet: nothing is compared until one that does.
 #[test]
 fn what_makes_a_file_quiet() {
     let mut run = begin("errors=repair");
     run.mishap(3, Mishap::Fall { blocks: 1 }).unwrap();
     let rows = run.compared.rows;
     issue_and_do(&mut run, &read(SEQ, 0, 0, 4096), &WELL);
-    run.idle_completion(None).unwrap();
-    // Two states, each with seq/1 alone.
-    assert_eq!(run.compared.rows, rows + 2);
+    run.stray_completion(&seq(0), None).unwrap();
+    // Three states, each with seq/1 alone.
+    assert_eq!(run.compared.rows, rows + 3);
     issue_and_do(&mut run, &read(SEQ, 0, 0, 4096), &failing(0, None));
-    assert_eq!(run.compared.rows, rows + 4);
+    // Two more, the second with both.
+    assert_eq!(run.compared.rows, rows + 6);
     assert_eq!(first(&run), (0, Condition::Healthy, Access::Write));
 }
 
@@ -131,7 +132,7 @@ fn every_true_record_leaves_the_same_row() {
             let mut run = begin(options);
             run.call(&write(SEQ, 0, 4096, 8192)).unwrap();
             let show = |zone: &Zone| own(&Zone { kind, condition, ..*zone });
-            assert!(run.doing(&failing(1, None), show).unwrap().is_some());
+            assert!(run.doing(SEQ, 0, &failing(1, None), show).unwrap().is_some());
             assert_eq!(first(&run), (8192, Condition::Healthy, access));
             let other_bytes = [u64::from(kind != 2), u64::from(condition != 2), 0, 0, 0];
             assert_eq!(run.compared.records, other_bytes);
@@ -147,7 +148,7 @@ fn every_true_record_of_a_zone_that_is_well() {
         let before = run.volume.clone();
         run.call(&read(SEQ, 0, 0, 4096)).unwrap();
         let show = |zone: &Zone| own(&Zone { kind, condition, ..*zone });
-        assert!(run.doing(&failing(0, None), show).unwrap().is_some());
+        assert!(run.doing(SEQ, 0, &failing(0, None), show).unwrap().is_some());
         assert_eq!(run.volume, before);
     }
 }
@@ -159,7 +160,7 @@ fn a_conventional_record_without_a_capacity() {
         let mut run = begin("errors=zone-ro");
         run.call(&write(CNV, 1, 4096, 8192)).unwrap();
         let show = |zone: &Zone| Shown { capacity_given: false, ..own(&Zone { capacity, ..*zone }) };
-        assert!(run.doing(&failing(1, None), show).unwrap().is_some());
+        assert!(run.doing(CNV, 1, &failing(1, None), show).unwrap().is_some());
         assert_eq!((run.volume.cnv[1].size, run.volume.cnv[1].access), (268435456, Access::Read));
         assert_eq!(run.compared.records, [0, 0, 0, 1, 0]);
     }
@@ -178,7 +179,8 @@ fn every_true_report_gives_the_same_rows() {
         issue_and_do(&mut run, &flush(SEQ, 0), &WELL);
     }
     assert_eq!(first(&run), (201326592 - 4096, Condition::Healthy, Access::Write));
-    assert_eq!(run.compared.states, 1 + 50 * 5);
+    // Each command has a state after its call and one after its completion.
+    assert_eq!(run.compared.states, 1 + 50 * (4 * 2 + 1));
 }
 
 /// Where the pointer of zone 3 stands while the zone is full.
@@ -255,7 +257,7 @@ fn every_true_record_of_a_zone_that_became_full() {
             let mut run = begin(options);
             run.call(&write(SEQ, 0, 4096, 201322496)).unwrap();
             let show = |zone: &Zone| own(&Zone { pointer, ..*zone });
-            assert!(run.doing(&failing(49151, None), show).unwrap().is_some());
+            assert!(run.doing(SEQ, 0, &failing(49151, None), show).unwrap().is_some());
             assert_eq!(zone_3(&run), (FULL_END, 14));
             assert_eq!(first(&run), (size, Condition::Healthy, access));
             let other = u64::from(pointer != FULL_END);
@@ -273,7 +275,7 @@ fn every_true_record_of_a_full_zone_that_is_well() {
             let before = run.volume.clone();
             run.call(&read(SEQ, 0, 0, 4096)).unwrap();
             let show = |zone: &Zone| own(&Zone { pointer, ..*zone });
-            assert!(run.doing(&failing(0, None), show).unwrap().is_some());
+            assert!(run.doing(SEQ, 0, &failing(0, None), show).unwrap().is_some());
             assert_eq!(run.volume, before);
             assert_eq!(run.compared.exceptions, [0, 0, 0]);
         }
@@ -312,7 +314,7 @@ fn a_full_zone_that_says_another_condition_has_its_pointer() {
             let mut run = begin_with("errors=repair", 0, 14);
             run.call(&read(SEQ, 0, 0, 4096)).unwrap();
             let show = |zone: &Zone| own(&Zone { pointer, condition, ..*zone });
-            let done = run.doing(&failing(0, None), show);
+            let done = run.doing(SEQ, 0, &failing(0, None), show);
             if pointer == FULL_END {
                 assert!(done.unwrap().is_some());
             } else {
@@ -340,7 +342,7 @@ fn an_untrue_record_is_noticed() {
             change(&mut shown);
             own(&shown)
         };
-        let complaint = run.doing(&failing(1, None), show).unwrap_err();
+        let complaint = run.doing(SEQ, 0, &failing(1, None), show).unwrap_err();
         assert!(complaint.starts_with("consistency: zone 3 is Zone"), "{complaint}");
         assert!(complaint.contains("which isn't true"), "{complaint}");
     }
@@ -367,7 +369,7 @@ fn an_untrue_report_is_noticed() {
     }
 }
 
-/// A kind byte that no file has is answered 1, also while a command is outstanding, and moves nothing.
+/// A kind byte that no file has is answered 1, also while a file is busy, and moves nothing.
 #[test]
 fn kinds_that_no_file_has() {
     let mut run = begin("errors=repair");
@@ -391,11 +393,12 @@ fn kinds_that_no_file_has() {
 /// Calls that a player with a wrong table or count answers 10, or 1 though the file is there.
 #[test]
 fn answers_that_no_call_of_a_run_has() {
-    let wrong: [(Change<Volume>, &str); 4] = [
-        (|volume| volume.seq[0].size += 1, "a call on a file that is there is answered 10"),
-        (|volume| volume.mount.block = 8192, "a call on a file that is there is answered 10"),
-        (|volume| volume.mount.seq_files = 0, "a call on a file that is there is answered 1"),
-        (|volume| volume.cnv.clear(), "a call on a file that is there is answered 10"),
+    let wrong: [(Change<Volume>, &str); 5] = [
+        (|volume| volume.seq[0].size += 1, "a call on an idle file is answered 10"),
+        (|volume| volume.mount.block = 8192, "a call on an idle file is answered 10"),
+        (|volume| volume.mount.seq_files = 0, "a call on an idle file is answered 1"),
+        (|volume| volume.cnv.clear(), "a call on an idle file is answered 10"),
+        (|volume| volume.seq[0].held = FLUSH, "a call on an idle file is answered 2"),
     ];
     for (change, expected) in wrong {
         let mut run = begin("errors=repair");
@@ -413,18 +416,18 @@ fn answers_that_no_call_of_a_run_has() {
     assert!(complaint.contains("a file that isn't there is answered 10"), "{complaint}");
 }
 
-/// A command that no call issues.
-const FLUSH_WITH_LENGTH: Held = Held {
-    kind: SEQ,
-    number: 0,
-    command: Command { operation: Operation::Flush, address: 805306368, length: 1 },
-};
+/// What a flush of seq/0 leaves, and a command that no call issues.
+const FLUSH: Held = Held::Command(Command { operation: Operation::Flush, address: 805306368, length: 0 });
+const FLUSH_WITH_LENGTH: Held =
+    Held::Command(Command { operation: Operation::Flush, address: 805306368, length: 1 });
 
-/// Completions that a player answers 10 or 9 because it held something else than it should, or another row.
+/// Completions that a player answers 10, 9 or 8 because it held something else than it should, or another row.
 #[test]
 fn answers_that_no_completion_of_a_run_has() {
-    let wrong: [(Change<Volume>, Choice, &str); 3] = [
-        (|volume| volume.mount.held = Some(FLUSH_WITH_LENGTH), WELL, "10 and not 0"),
+    let wrong: [(Change<Volume>, Choice, &str); 5] = [
+        (|volume| volume.seq[0].held = FLUSH_WITH_LENGTH, WELL, "10 and not 0"),
+        (|volume| volume.seq[0].held = Held::of_words([6, 805310464, 8192]), WELL, "10 and not 0"),
+        (|volume| volume.seq[0].held = Held::Nothing, WELL, "8 and not 0"),
         (|volume| volume.seq[0].size += 4096, failing(0, None), "10 and not 7"),
         (|volume| volume.seq[0].capacity += 4096, failing(0, None), "9 and not 7"),
     ];
@@ -432,15 +435,53 @@ fn answers_that_no_completion_of_a_run_has() {
         let mut run = begin("errors=repair");
         run.call(&write(SEQ, 0, 4096, 8192)).unwrap();
         change(&mut run.volume);
-        let complaint = run.doing(&choice, own).unwrap_err();
+        let complaint = run.doing(SEQ, 0, &choice, own).unwrap_err();
         let expected = format!("consistency: a truthful completion is answered {expected}\n");
         assert!(complaint.starts_with(&expected), "{complaint}");
     }
+}
+
+/// A call on a busy file that a player takes, as it looks for the command elsewhere or has lost it.
+#[test]
+fn a_busy_file_that_is_taken_for_an_idle_one() {
     let mut run = begin("errors=repair");
     run.call(&write(SEQ, 0, 4096, 8192)).unwrap();
-    let complaint = run.idle_completion(None).unwrap_err();
+    run.volume.seq[0].held = Held::Nothing;
+    let complaint = run.call(&read(SEQ, 0, 0, 1)).unwrap_err();
+    assert!(complaint.starts_with("consistency: a call on a busy file is answered 0\n"), "{complaint}");
+}
+
+/// Stray completions name an idle file, a number that isn't there, or a kind that isn't, with other files busy or not.
+#[test]
+fn stray_completions() {
+    let mut run = begin("errors=repair");
+    let noise = own(&run.disk.zones[3]);
+    for busy in [false, true] {
+        if busy {
+            run.call(&write(SEQ, 0, 4096, 8192)).unwrap();
+            run.call(&flush(CNV, 1)).unwrap();
+        }
+        let before = run.volume.clone();
+        let (states, entries) = (run.compared.states, 2 * 6);
+        for named in [
+            seq(1),
+            cnv(0),
+            seq(2),
+            cnv(u32::MAX),
+            Named { kind: 2, number: 0 },
+            Named { kind: 255, number: 1 },
+        ] {
+            assert_eq!(run.stray_completion(&named, None), Ok(()), "{named:?}");
+            assert_eq!(run.stray_completion(&named, Some(&noise)), Ok(()), "{named:?}");
+        }
+        assert_eq!((&run.volume, run.compared.states), (&before, states + entries));
+    }
+    let complaint = run.stray_completion(&seq(0), None).unwrap_err();
+    assert!(complaint.starts_with("consistency: a stray completion names a busy file\n"), "{complaint}");
+    run.volume.seq[1].held = Held::of_words([5, 1073741824, 0]);
+    let complaint = run.stray_completion(&seq(1), None).unwrap_err();
     assert!(
-        complaint.starts_with("consistency: an idle completion is answered 0 and not 8\n"),
+        complaint.starts_with("consistency: a stray completion is answered 0 and not 8\n"),
         "{complaint}"
     );
 }
@@ -452,11 +493,14 @@ fn untrue_completions() {
     run.call(&write(SEQ, 0, 4096, 8192)).unwrap();
     let before = run.volume.clone();
     let zone = run.disk.zones[3];
-    assert_eq!(run.untrue_completion(&own(&Zone { pointer: zone.pointer + 16, ..zone })), Ok(false));
-    assert_eq!(run.untrue_completion(&own(&Zone { pointer: zone.pointer + 1, ..zone })), Ok(true));
+    let landed = own(&Zone { pointer: zone.pointer + 16, ..zone });
+    assert_eq!(run.untrue_completion(&seq(0), &landed), Ok(false));
+    assert_eq!(run.untrue_completion(&seq(0), &own(&Zone { pointer: zone.pointer + 1, ..zone })), Ok(true));
+    // Another file's record, as true as it is of that.
+    assert_eq!(run.untrue_completion(&seq(0), &own(&run.disk.zones[4])), Ok(true));
     assert_eq!(run.volume, before);
     run.volume.mount.block = 1024;
-    let complaint = run.untrue_completion(&own(&zone)).unwrap_err();
+    let complaint = run.untrue_completion(&seq(0), &own(&zone)).unwrap_err();
     assert!(
         complaint.starts_with("consistency: an untrue completion is answered 10 and not 9"),
         "{complaint}"
@@ -471,9 +515,104 @@ fn completions_on_copies_that_no_run_has() {
     let shown = own(&run.disk.zones[3]);
     for failed in [None, Some(&shown)] {
         let spoilt = Volume { seq: Vec::new(), ..possible.clone() };
-        assert_eq!(run.impossible_completion(&spoilt, failed), Ok(()));
-        let complaint = run.impossible_completion(&possible, failed).unwrap_err();
+        assert_eq!(run.impossible_completion(&spoilt, &seq(0), failed), Ok(()));
+        let complaint = run.impossible_completion(&possible, &seq(0), failed).unwrap_err();
         assert!(complaint.contains("a completion on a copy that no run has is answered"), "{complaint}");
     }
     assert_eq!((run.volume, run.compared.impossible), (possible, 4));
+}
+
+/// Three files at once, done in the order of issue and in every other one.
+#[test]
+fn commands_are_done_in_any_order() {
+    let calls = [write(SEQ, 0, 4096, 8192), truncate(SEQ, 1, 201326592), write(CNV, 1, 0, 4096)];
+    for order in [[0, 1, 2], [0, 2, 1], [1, 0, 2], [1, 2, 0], [2, 0, 1], [2, 1, 0]] {
+        let mut run = begin("errors=repair");
+        calls.iter().for_each(|call| run.call(call).unwrap());
+        let issued: Vec<(FileKind, u32)> = run.outstanding().iter().map(|of| (of.kind, of.number)).collect();
+        assert_eq!(issued, [(SEQ, 0), (SEQ, 1), (CNV, 1)]);
+        for place in order {
+            let Call { kind, number, .. } = calls[place];
+            assert!(run.is_busy(kind, number));
+            assert_eq!(run.doing(kind, number, &WELL, own), Ok(Some(None)));
+            assert!(!run.is_busy(kind, number));
+            assert_eq!(run.doing(kind, number, &WELL, own), Ok(None), "nothing is left to do");
+        }
+        assert!(run.outstanding().is_empty());
+        assert_eq!((run.volume.seq[0].size, run.volume.seq[1].size), (12288, 201326592));
+    }
+}
+
+/// A file with nothing outstanding is compared while others are busy, and a busy one isn't.
+#[test]
+fn idle_files_are_compared_beside_busy_ones() {
+    let mut run = begin("errors=repair");
+    assert_eq!((run.compared.rows, run.compared.rows_beside), (2, 0));
+    run.call(&write(SEQ, 0, 4096, 8192)).unwrap();
+    assert_eq!((run.compared.rows, run.compared.rows_beside), (3, 1));
+    issue_and_do(&mut run, &write(SEQ, 1, 0, 4096), &WELL);
+    assert_eq!((run.compared.rows, run.compared.rows_beside), (4, 2));
+    assert_eq!(run.volume.seq[1].size, 4096);
+    run.volume.seq[0].size = 0;
+    run.mishap(0, Mishap::BecomesReadOnly).unwrap();
+    run.volume.seq[1].size = 0;
+    let complaint = run.mishap(0, Mishap::BecomesOffline).unwrap_err();
+    assert!(complaint.starts_with("consistency: seq/1 is "), "{complaint}");
+}
+
+/// A mishap befalls the zone of a command that isn't done yet, and then that of another file.
+#[test]
+fn mishaps_while_commands_are_outstanding() {
+    let mut run = begin("errors=repair");
+    run.call(&write(SEQ, 0, 4096, 8192)).unwrap();
+    run.call(&flush(SEQ, 1)).unwrap();
+    run.mishap(3, Mishap::Fall { blocks: 1 }).unwrap();
+    run.mishap(4, Mishap::BecomesReadOnly).unwrap();
+    // Both must fail, whatever the disk would choose: the pointer isn't there any more, and the other isn't quiet.
+    assert!(run.doing(SEQ, 1, &WELL, own).unwrap().unwrap().is_some());
+    assert!(run.is_busy(SEQ, 0));
+    assert!(run.doing(SEQ, 0, &WELL, own).unwrap().unwrap().is_some());
+    assert_eq!(first(&run), (0, Condition::Healthy, Access::Write));
+    assert_eq!((run.volume.seq[1].condition, run.volume.seq[1].access), (Condition::ReadOnly, Access::Read));
+}
+
+/// Commands of every sort that are outstanding when another file's failure makes the mount read-only: they are done well,
+/// sizes move with the disk, and the check holds.
+#[test]
+fn commands_outlive_a_remount() {
+    let cases = [
+        (write(SEQ, 0, 4096, 8192), 12288),
+        (truncate(SEQ, 0, 0), 0),
+        (truncate(SEQ, 0, 201326592), 201326592),
+        (flush(SEQ, 0), 4096),
+        (read(SEQ, 0, 0, 4096), 4096),
+    ];
+    for (call, size) in cases {
+        let mut run = begin("errors=remount-ro");
+        run.call(&call).unwrap();
+        issue_and_do(&mut run, &write(SEQ, 1, 0, 8192), &failing(1, None));
+        assert!(run.volume.mount.read_only);
+        assert!(run.is_busy(SEQ, 0));
+        assert_eq!(run.doing(SEQ, 0, &WELL, own), Ok(Some(None)), "{call:?}");
+        assert_eq!(first(&run), (size, Condition::Healthy, Access::Write));
+        assert_eq!(run.compared.exceptions, [0, 0, 0]);
+        assert_eq!(run.volume.seq[1].size, 4096);
+    }
+}
+
+/// The same where the second one fails too, on a mount that is read-only by then.
+#[test]
+fn a_failure_after_a_remount() {
+    for (choice, expected) in [
+        (failing(1, None), (8192, Condition::Healthy, Access::Write)),
+        (failing(0, Some(Mishap::BecomesReadOnly)), (4096, Condition::ReadOnly, Access::Read)),
+        (failing(2, Some(Mishap::BecomesOffline)), (0, Condition::Offline, Access::None)),
+    ] {
+        let mut run = begin("errors=remount-ro");
+        run.call(&write(SEQ, 0, 4096, 8192)).unwrap();
+        issue_and_do(&mut run, &flush(CNV, 0), &failing(0, None));
+        assert!(run.volume.mount.read_only);
+        assert!(run.doing(SEQ, 0, &choice, own).unwrap().unwrap().is_some());
+        assert_eq!(first(&run), expected);
+    }
 }

@@ -5,11 +5,12 @@ use std::sync::OnceLock;
 
 use super::stamp;
 use crate::generator::random::Random;
-use crate::generator::{generate, long, refused, shape, Generated, MAX_PAD};
-use crate::player::play::play;
+use crate::generator::{broken, generate, long, refused, shape, Generated, MAX_PAD};
+use crate::player::play::{play, Line};
 use crate::player::tape::{Next, Reader, Record, Verb};
 use crate::player::types::{u32_at, FileKind, Reason, Refusal};
 use crate::player::zone::Zone;
+use crate::program::busy::Busy;
 use crate::program::counter::{Counter, Failure};
 use crate::program::perms::Perms;
 use crate::program::pointers::CASE_NAMES;
@@ -162,6 +163,76 @@ fn the_tapes_have_every_pointer() {
     assert!(never.is_empty(), "never came: {never:?}");
 }
 
+/// Files are busy at the same time in every way that matters.
+#[test]
+fn the_tapes_have_every_case_of_busy_files() {
+    let mut busy = Busy::default();
+    tapes().iter().for_each(|generated| busy.count_tape(&generated.bytes));
+    assert!(busy.counts.iter().all(|&count| count > 0), "{:?}", busy.counts);
+}
+
+/// So are those of a long run, which has no read-only mount.
+#[test]
+fn a_long_run_has_busy_files() {
+    let mut busy = Busy::default();
+    busy.count_tape(&long(1, 4000, 0).unwrap());
+    assert!(busy.counts[..8].iter().all(|&count| count >= 10), "{:?}", busy.counts);
+    assert_eq!(busy.counts[8..], [0; 7]);
+}
+
+/// Every call is done in the end: a long run leaves nothing outstanding.
+#[test]
+fn a_long_run_ends_idle() {
+    for seed in 1..=5 {
+        let tape = long(seed, 50, 0).unwrap();
+        let texts = play(&tape).into_iter().map(|line| line.text);
+        let (mut issued, mut done) = (0, 0);
+        for text in texts {
+            let words: Vec<&str> = text.split(' ').collect();
+            match words[..] {
+                ["OK", _, _, "0", _] | ["NO", _, _, "7", _] => done += 1,
+                [_, "0", letter, _, _] if letter.chars().all(char::is_alphabetic) => issued += 1,
+                _ => {}
+            }
+        }
+        assert!(issued > 0 && issued == done, "seed {seed}: {issued} issued, {done} done");
+    }
+}
+
+/// A tape's end may be any part of a completion.
+#[test]
+fn completions_are_cut_at_every_place() {
+    let mut cuts = BTreeSet::new();
+    for index in 0..6000 {
+        let mut end = Vec::new();
+        broken::spoil_end(&mut Random::new(2, index), &mut end);
+        for (mark, whole) in [("OK", 7), ("NO", 71)] {
+            if end.starts_with(mark.as_bytes()) && end.len() < whole {
+                cuts.insert((mark, end.len()));
+            }
+        }
+    }
+    let expected = (2..7).map(|length| ("OK", length)).chain((2..71).map(|length| ("NO", length)));
+    assert_eq!(cuts, expected.collect());
+}
+
+/// On whole tapes too: each place of a good one, and of a failed one those where only a part of a name is missing.
+#[test]
+fn tapes_end_in_cut_completions() {
+    let mut cuts = BTreeSet::new();
+    for index in 0..1500 {
+        let tape = broken::tape(&mut Random::new(1, index));
+        let Some(Line { at, text }) = play(&tape).pop() else { continue };
+        let rest = &tape[at..];
+        if text == "?? 40" && (rest.starts_with(b"OK") || rest.starts_with(b"NO")) {
+            cuts.insert((rest[0], rest.len()));
+        }
+    }
+    for (mark, lengths) in [(b'O', 2..7), (b'N', 66..71)] {
+        assert!(lengths.into_iter().all(|length| cuts.contains(&(mark, length))), "{cuts:?}");
+    }
+}
+
 /// The reasons that came with 29, and those with 9 for files of each kind.
 #[derive(Default)]
 struct ReasonsSeen {
@@ -215,7 +286,8 @@ fn checked_runs_have_every_true_record() {
         }
         let mut failures = 0;
         for (record, text) in answered(&generated.bytes) {
-            if let (Record::Failed(bytes), true) = (record, text.starts_with("NO 7")) {
+            let digested = text.split(' ').nth(3) == Some("7");
+            if let (Record::Failed(_, bytes), true) = (record, digested) {
                 seen.insert((bytes[24], bytes[25]));
                 failures += 1;
             }
@@ -256,7 +328,7 @@ fn missing_answers_are_named() {
     assert!(of_a_full_zone.iter().all(|name| all.contains(name)));
     tally.count_line("MO 29 3 7");
     tally.count_line("RD 0 R 512 7");
-    tally.count_line("OK 0 5");
+    tally.count_line("OK 1 3 0 5");
     let missing = tally.missing();
     assert_eq!(missing.len(), all.len() - 3);
     tally.pointers.counts = [0, 1, 1, 1, 1, 1, 1, 1, 1];

@@ -2,11 +2,14 @@
 
 mod answers;
 mod borders;
+mod busy;
 mod calls;
 mod completion;
+mod completion_order;
 mod consistency;
 mod format;
 mod generator;
+mod held;
 mod mount;
 mod perms;
 mod pointers;
@@ -18,6 +21,7 @@ mod truthful;
 use crate::player::calls::{Call, Reply, Request};
 use crate::player::mount::Input;
 use crate::player::play::mount_volume;
+use crate::player::tape::Named;
 use crate::player::types::{FileKind, Refusal, Volume};
 use crate::player::zone::Zone;
 
@@ -61,6 +65,15 @@ pub fn spoil_super_block(bytes: &mut Vec<u8>, faults: &[u32], id_at: usize, id_b
     stamp(bytes);
     bytes[4] ^= u8::from(faults.contains(&23));
     bytes.resize(4096 + usize::from(faults.contains(&21)), 0);
+}
+
+/// A sequential file, as a tape's completion names it.
+pub fn seq(number: u32) -> Named {
+    Named { kind: 1, number }
+}
+
+pub fn cnv(number: u32) -> Named {
+    Named { kind: 0, number }
 }
 
 pub fn zone(start: u64, length: u64, pointer: u64, kind: u8, condition: u8, capacity: u64) -> Zone {

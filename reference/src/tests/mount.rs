@@ -145,7 +145,7 @@ fn row_of(third: Zone) -> Row {
 }
 
 fn healthy_row(capacity: u64, size: u64) -> Row {
-    Row { start: S, capacity, size, condition: Condition::Healthy, access: Access::Write }
+    Row { start: S, capacity, size, access: Access::Write, ..Row::EMPTY }
 }
 
 #[test]
@@ -251,13 +251,7 @@ fn ill_zones_are_kept_offline() {
         let mut zones = sheet_zones();
         zones[2].condition = condition;
         zones[3].condition = condition;
-        let offline = |start, capacity| Row {
-            start,
-            capacity,
-            size: 0,
-            condition: Condition::Offline,
-            access: Access::None,
-        };
+        let offline = |start, capacity| Row { start, capacity, condition: Condition::Offline, ..Row::EMPTY };
         let apart = mount_volume(&input_with(0, "", &zones)).unwrap();
         assert_eq!((apart.cnv[0].size, apart.cnv[1]), (268435456, offline(1048576, 268435456)));
         assert_eq!(apart.seq[0], offline(1572864, 201326592));

@@ -100,15 +100,15 @@ fn the_first_check_of_every_set_of_faults() {
 
 /// The lines of a tape with that mount and a record behind it.
 fn lines(input: &Input) -> Vec<String> {
-    let tape = [&head(input)[..], b"OK"].concat();
+    let tape = [&head(input)[..], b"OK\x01\x00\x00\x00\x00"].concat();
     play(&tape).into_iter().map(|line| line.text).collect()
 }
 
 #[test]
 fn answer_33_stands_alone_and_stops_the_tape() {
     assert_eq!(lines(&input_of(8, 0o1000, |_| {})), ["MO 33"]);
-    assert_eq!(lines(&input_of(8, 0o777, |_| {})), ["MO 0 2 2", "OK 8"]);
-    assert_eq!(lines(&input_of(7, 0o1000, |_| {})), ["MO 0 1 2", "OK 8"]);
+    assert_eq!(lines(&input_of(8, 0o777, |_| {})), ["MO 0 2 2", "OK 1 0 8"]);
+    assert_eq!(lines(&input_of(7, 0o1000, |_| {})), ["MO 0 1 2", "OK 1 0 8"]);
 }
 
 fn counted(features: u8, perm: u32, change: impl Fn(&mut [u8])) -> [u64; 4] {

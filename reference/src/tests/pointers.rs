@@ -21,7 +21,7 @@ fn counts(options: &str, third: Zone, verb: Verb, records: &[[u8; 64]]) -> [u64;
     let mut tape = head(&input_with(0, options, &zones));
     let offset = if verb == Verb::Write { 4096 } else { 0 };
     encode(&Record::Call(CallRecord { verb, kind: 1, number: 0, offset, length: 4096 }), &mut tape);
-    records.iter().for_each(|record| encode(&Record::Failed(record), &mut tape));
+    records.iter().for_each(|record| encode(&Record::Failed(seq(0), record), &mut tape));
     let mut pointers = Pointers::default();
     pointers.count_tape(&tape);
     pointers.counts

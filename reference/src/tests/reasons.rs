@@ -5,7 +5,7 @@ use crate::generator::faults::REASONS;
 use crate::generator::records::{encode, head};
 use crate::player::play::play;
 use crate::player::tape::{CallRecord, Record, Verb};
-use crate::player::types::{Access, Condition, Reason};
+use crate::player::types::{Access, Condition, Held, Reason};
 use crate::program::counter::Counter;
 use crate::program::reasons::Reasons;
 use crate::program::tally::Tally;
@@ -43,10 +43,11 @@ fn reason(third: Zone) -> u64 {
     }
 }
 
-/// The reason for which a failed command's record of this zone is refused with 9; 0 if it is taken.
+/// The reason for which the busy file's record of this zone is refused with 9; 0 if it is taken.
 fn record_reason(volume: &Volume, zone: &Zone) -> u64 {
     let mut trial = volume.clone();
-    match trial.fail(&record(zone), true) {
+    let [of] = volume.all_outstanding()[..] else { panic!("one file is busy") };
+    match trial.fail(of.kind, of.number, &record(zone), true) {
         Ok(_) => 0,
         Err(refusal) => {
             assert_eq!((refusal.number(), refusal.values().len()), (9, 1));
@@ -313,7 +314,7 @@ fn the_first_reason_of_a_sequential_files_record() {
 fn the_first_reason_of_a_conventional_files_record() {
     let mut volume = writing_cnv();
     (volume.cnv[1].condition, volume.cnv[1].access) = (Condition::ReadOnly, Access::Read);
-    volume.mount.held = None;
+    volume.cnv[1].held = Held::Nothing;
     volume.call(&read(CNV, 1, 0, 4096)).unwrap();
     for faults in Faults::sets(2..=8) {
         let length = faults.length();
@@ -396,14 +397,14 @@ fn a_record_of_another_length_has_reason_0() {
     for length in [0, 1, 63, 65] {
         let mut volume = writing_seq();
         let before = volume.clone();
-        let refusal = volume.fail(&bytes[..length], true).unwrap_err();
+        let refusal = volume.fail(SEQ, 0, &bytes[..length], true).unwrap_err();
         assert_eq!((refusal.number(), refusal.values()), (9, vec![0]), "{length} bytes");
         assert_eq!(volume, before);
-        assert_eq!(sheet().fail(&bytes[..length], true), Err(Refusal::NothingOutstanding));
+        assert_eq!(sheet().fail(SEQ, 0, &bytes[..length], true), Err(Refusal::NothingOutstanding));
         volume.seq[0].size += 1;
-        assert_eq!(volume.fail(&bytes[..length], true), Err(Refusal::Impossible));
+        assert_eq!(volume.fail(SEQ, 0, &bytes[..length], true), Err(Refusal::Impossible));
     }
-    assert_eq!(writing_seq().fail(&bytes[..64], true), Ok(4096));
+    assert_eq!(writing_seq().fail(SEQ, 0, &bytes[..64], true), Ok(4096));
 }
 
 /// A tape on which a write to seq/0 fails with these records.
@@ -411,7 +412,7 @@ fn tape_with(zones: &[Zone], records: &[Zone]) -> Vec<u8> {
     let mut tape = head(&input_with(0, "errors=zone-ro", zones));
     let call = CallRecord { verb: Verb::Write, kind: 1, number: 0, offset: 4096, length: 8192 };
     encode(&Record::Call(call), &mut tape);
-    records.iter().for_each(|zone| encode(&Record::Failed(&record(zone)), &mut tape));
+    records.iter().for_each(|zone| encode(&Record::Failed(seq(0), &record(zone)), &mut tape));
     tape
 }
 
@@ -434,8 +435,16 @@ fn the_reason_stands_last_on_the_line() {
         zone(S, L, S + 16, 2, 2, C),
         zone(S, L, S, 2, 0, C),
     ];
-    let expected =
-        ["MO 0 2 2", "WR 0 W 805310464 8192", "NO 9 2", "NO 9 3", "NO 9 6", "NO 9 8", "NO 7 8192", "NO 8"];
+    let expected = [
+        "MO 0 2 2",
+        "WR 0 W 805310464 8192",
+        "NO 1 0 9 2",
+        "NO 1 0 9 3",
+        "NO 1 0 9 6",
+        "NO 1 0 9 8",
+        "NO 1 0 7 8192",
+        "NO 1 0 8",
+    ];
     assert_eq!(lines(&tape_with(&sheet_zones(), &records)), expected);
 }
 
@@ -534,12 +543,12 @@ fn better_conditions_are_counted() {
     let call = CallRecord { verb: Verb::Read, kind: 1, number: 0, offset: 0, length: 4096 };
     encode(&Record::Call(call), &mut tape);
     let records = [zone(S + 8, L, S + 8, 2, 13, C), zone(S + 8, L, S + 8, 2, 2, C), zone(S, L, S, 2, 14, C)];
-    records.iter().for_each(|zone| encode(&Record::Failed(&record(zone)), &mut tape));
+    records.iter().for_each(|zone| encode(&Record::Failed(seq(0), &record(zone)), &mut tape));
     let mut expected = Reasons::default();
     (expected.records.given[8], expected.records.before_next[8]) = (2, 1);
     expected.records.given[9] = 1;
     assert_eq!(counted(&tape), expected);
-    assert_eq!(lines(&tape)[4..], ["NO 9 8", "NO 9 8", "NO 9 9"]);
+    assert_eq!(lines(&tape)[4..], ["NO 1 0 9 8", "NO 1 0 9 8", "NO 1 0 9 9"]);
 }
 
 #[test]

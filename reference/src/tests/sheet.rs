@@ -5,7 +5,7 @@ use crate::generator::records::{encode, head};
 use crate::player::calls::Reply::{Done, Issued};
 use crate::player::play::play;
 use crate::player::tape::{CallRecord, Record, Verb};
-use crate::player::types::{Access, Command, Operation};
+use crate::player::types::{Access, Command, Held, Operation};
 
 fn command(operation: Operation, address: u64, length: u64) -> Reply {
     Issued(Command { operation, address, length })
@@ -42,7 +42,7 @@ fn truncations() {
     assert_eq!(number(sheet().call(&truncate(SEQ, 0, 4096))), 4);
     let mut volume = sheet();
     assert_eq!(volume.call(&truncate(SEQ, 1, 0)), Ok(Done(0)));
-    assert_eq!(volume.mount.held, None);
+    assert_eq!(volume, sheet());
 }
 
 #[test]
@@ -57,7 +57,7 @@ fn failed_write() {
         let mut volume = sheet();
         volume.call(&write(SEQ, 0, 4096, 8192)).unwrap();
         let zone = zone(1572864, 524288, 1572880, 2, condition, 393216);
-        assert_eq!(volume.fail(&record(&zone), true), Ok(size));
+        assert_eq!(volume.fail(SEQ, 0, &record(&zone), true), Ok(size));
         assert_eq!((volume.seq[0].size, volume.seq[0].access), (size, access));
     }
 }
@@ -76,9 +76,9 @@ fn failed_write_into_a_full_zone() {
     let mut volume = sheet();
     volume.call(&write(SEQ, 0, 4096, 8192)).unwrap();
     let zone = zone(1572864, 524288, 0, 2, 14, 393216);
-    assert_eq!(volume.fail(&record(&zone), true), Ok(201326592));
+    assert_eq!(volume.fail(SEQ, 0, &record(&zone), true), Ok(201326592));
     assert_eq!((volume.seq[0].size, volume.seq[0].access), (201326592, Access::Write));
-    assert_eq!(volume.mount.held, None);
+    assert_eq!(volume.seq[0].held, Held::Nothing);
 }
 
 /// A call on a sequential file, as a tape has it.
@@ -101,39 +101,39 @@ fn full_zones_on_a_tape() {
     let full = record(&zone(1572864, 524288, 0, 2, 14, 393216));
     let records = [
         on_tape(Verb::Read, 1, 0, 201326592),
-        Record::Good,
+        Record::Good(seq(1)),
         on_tape(Verb::Write, 0, 4096, 8192),
-        Record::Failed(&full),
+        Record::Failed(seq(0), &full),
         on_tape(Verb::Write, 0, 201326592, 0),
     ];
     let expected = "\
 MO 0 2 2
 RD 0 R 1073741824 201326592
-OK 0 201326592
+OK 1 1 0 201326592
 WR 0 W 805310464 8192
-NO 7 201326592
+NO 1 0 7 201326592
 WR 0 D 0
 ";
     assert_eq!(printed(&input_with(0, "errors=repair", &zones), &records), expected);
 }
 
-/// The output that the paper prints whole.
+/// The output that the paper prints whole, with the file in the completions' lines.
 #[test]
 fn printed_output() {
     let records = [
         on_tape(Verb::Write, 0, 4096, 8192),
-        Record::Good,
+        Record::Good(seq(0)),
         on_tape(Verb::Write, 0, 4096, 4096),
         on_tape(Verb::Truncate, 0, 0, 0),
-        Record::Good,
+        Record::Good(seq(0)),
     ];
     let expected = "\
 MO 0 2 2
 WR 0 W 805310464 8192
-OK 0 8192
+OK 1 0 0 8192
 WR 6
 TR 0 Z 805306368 0
-OK 0 0
+OK 1 0 0 0
 ";
     assert_eq!(printed(&sheet_input(), &records), expected);
 }

@@ -5,6 +5,7 @@ use crate::generator::records::{encode, head};
 use crate::player::play::play;
 use crate::player::tape::{CallRecord, Record, Verb};
 use crate::program::compare::compare_output;
+use crate::program::describe::describe;
 
 fn sheet_head() -> Vec<u8> {
     head(&input_with(0, "", &sheet_zones()))
@@ -23,12 +24,39 @@ fn every_cut_of_the_mount_is_broken() {
     assert_eq!(lines(&head), ["MO 0 2 2"]);
 }
 
+/// A completion of seq/1, and the line that it has with nothing outstanding.
+const IDLE: (&[u8], &str) = (b"OK\x01\x01\x00\x00\x00", "OK 1 1 8");
+
 #[test]
 fn broken_after_the_mount() {
-    let tails: [&[u8]; 9] = [b"O", b"ok", b"??", b"NO", b"NO123", b"BK\0\x10", b"MO\0", b"ZR", b"RD\x01"];
+    let tails: [&[u8]; 10] =
+        [b"O", b"ok", b"??", b"NO", b"NO123", b"BK\0\x10", b"MO\0", b"ZR", b"RD\x01", b"OK\x01"];
     for tail in tails {
-        let tape = [sheet_head().as_slice(), b"OK", tail].concat();
-        assert_eq!(lines(&tape), ["MO 0 2 2", "OK 8", "?? 40"], "{}", tail.escape_ascii());
+        let tape = [sheet_head().as_slice(), IDLE.0, tail].concat();
+        assert_eq!(lines(&tape), ["MO 0 2 2", IDLE.1, "?? 40"], "{}", tail.escape_ascii());
+    }
+}
+
+/// Each cut of a good and of a failed completion, with a command outstanding that a whole one completes.
+#[test]
+fn every_cut_of_a_completion_is_broken() {
+    let mut busy = sheet_head();
+    busy.extend_from_slice(b"FL\x01\x00\x00\x00\x00");
+    busy.extend_from_slice(&[0; 16]);
+    let start = lines(&busy);
+    assert_eq!(start, ["MO 0 2 2", "FL 0 S 805306368 0"]);
+    let good = b"OK\x01\x00\x00\x00\x00".to_vec();
+    let zone = record(&zone(1572864, 524288, 1572872, 2, 2, 393216));
+    let failed = [b"NO\x01\x00\x00\x00\x00".as_slice(), &zone].concat();
+    assert_eq!((good.len(), failed.len()), (2 + 5, 2 + 5 + 64));
+    for (completion, answer) in [(good, "OK 1 0 0 0"), (failed, "NO 1 0 7 4096")] {
+        for length in 1..completion.len() {
+            let cut = [busy.as_slice(), &completion[..length]].concat();
+            assert_eq!(lines(&cut)[2..], ["?? 40"], "{length} bytes of {answer}");
+        }
+        // The next record begins right behind it.
+        let whole = [busy.as_slice(), &completion, IDLE.0].concat();
+        assert_eq!(lines(&whole)[2..], [answer, IDLE.1]);
     }
 }
 
@@ -36,7 +64,7 @@ fn broken_after_the_mount() {
 fn a_refused_mount_stops_the_tape() {
     let mut tape = sheet_head();
     tape[2] = 1;
-    tape.extend_from_slice(b"OK");
+    tape.extend_from_slice(IDLE.0);
     assert_eq!(lines(&tape), ["MO 20"]);
 }
 
@@ -71,13 +99,70 @@ fn bytes_of_calls() {
     tape.extend_from_slice(
         b"WR\x00\x01\x00\x00\x00\x01\x00\x00\x00\x00\x00\x00\x00\x05\x00\x00\x00\x00\x00\x00\x00",
     );
-    tape.extend_from_slice(b"NO");
+    tape.extend_from_slice(b"NO\x01\x00\x00\x00\x00");
     tape.extend_from_slice(&record(&zone(1572864, 524288, 1572880, 3, 4, 393216)));
+    tape.extend_from_slice(b"OK\x01\x00\x00\x00\x00");
     tape.extend_from_slice(
-        b"OKTR\x01\x01\x00\x00\x00\x01\x00\x00\x00\x00\x00\x00\x00\x00\x00\x00\x00\x00\x00\x00\x00",
+        b"TR\x01\x01\x00\x00\x00\x01\x00\x00\x00\x00\x00\x00\x00\x00\x00\x00\x00\x00\x00\x00\x00",
     );
-    let expected = ["MO 0 2 2", "RD 0 R 805306369 5", "FL 1", "WR 2", "NO 7 8192", "OK 8", "TR 3"];
+    tape.extend_from_slice(b"OK\x00\x01\x00\x00\x00");
+    let expected = [
+        "MO 0 2 2",
+        "RD 0 R 805306369 5",
+        "FL 1",
+        "WR 0 W 536870913 5",
+        "NO 1 0 7 8192",
+        "OK 1 0 8",
+        "TR 3",
+        "OK 0 1 0 5",
+    ];
     assert_eq!(lines(&tape), expected);
+}
+
+/// Kind and number stand on the line as the record has them, also those that no file has.
+#[test]
+fn lines_of_completions_name_the_file() {
+    let zone = record(&zone(1572864, 524288, 1572864, 2, 1, 393216));
+    let files: [(&[u8; 5], &str); 7] = [
+        (b"\x01\x05\x00\x00\x00", "1 5 1"),
+        (b"\x02\x00\x00\x00\x00", "2 0 1"),
+        (b"\xFF\xFF\xFF\xFF\xFF", "255 4294967295 1"),
+        (b"\x00\x02\x01\x00\x00", "0 258 1"),
+        (b"\x00\x00\x00\x00\x01", "0 16777216 1"),
+        (b"\x01\x01\x00\x00\x00", "1 1 8"),
+        (b"\x00\x01\x00\x00\x00", "0 1 8"),
+    ];
+    for (bytes, text) in files {
+        let good = [b"OK".as_slice(), bytes].concat();
+        let failed = [b"NO".as_slice(), bytes, &zone].concat();
+        let tape = [sheet_head(), good, failed].concat();
+        assert_eq!(lines(&tape)[1..], [format!("OK {text}"), format!("NO {text}")]);
+    }
+}
+
+/// 9's reason stands last, behind the file and the answer.
+#[test]
+fn a_reason_stands_behind_the_file() {
+    let mut tape = sheet_head();
+    encode(&Record::Call(CallRecord::of(&flush(SEQ, 0))), &mut tape);
+    encode(&Record::Failed(seq(0), &record(&zone(8, 8, 8, 2, 2, 8))), &mut tape);
+    assert_eq!(lines(&tape)[2..], ["NO 1 0 9 8"]);
+}
+
+#[test]
+fn a_tape_as_text_names_the_files_of_completions() {
+    let zone = record(&zone(8, 16, 24, 2, 13, 8));
+    let mut tape = Vec::new();
+    encode(&Record::Good(cnv(7)), &mut tape);
+    encode(&Record::Failed(seq(0), &zone), &mut tape);
+    encode(&Record::Good(Named { kind: 2, number: 4294967295 }), &mut tape);
+    let text: Vec<String> = describe(&tape).into_iter().map(|record| record.text).collect();
+    let expected = [
+        "OK cnv/7",
+        "NO seq/0 start 8 length 16 pointer 24 type 2 condition 13 capacity 8",
+        "OK kind 2 /4294967295",
+    ];
+    assert_eq!(text, expected);
 }
 
 #[test]

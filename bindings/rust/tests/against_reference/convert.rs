@@ -1,6 +1,6 @@
 //! The reference's values as words, and words as the reference's values.
 
-use reference::player::types::{Access, Command, Condition, FileKind, Held, Mount, Operation, Policy, Row};
+use reference::player::types::{Access, Command, Condition, FileKind, Held, Mount, Policy, Row};
 use zonefs::words::{MOUNT_WORDS, ROW_WORDS};
 
 pub const KINDS: [FileKind; 2] = [FileKind::Conventional, FileKind::Sequential];
@@ -8,8 +8,6 @@ const CONDITIONS: [Condition; 3] = [Condition::Healthy, Condition::ReadOnly, Con
 const ACCESSES: [Access; 3] = [Access::None, Access::Read, Access::Write];
 const POLICIES: [Policy; 4] =
     [Policy::RemountReadOnly, Policy::ZoneReadOnly, Policy::ZoneOffline, Policy::Repair];
-const OPERATIONS: [Operation; 5] =
-    [Operation::Read, Operation::Write, Operation::Reset, Operation::Finish, Operation::Flush];
 
 pub fn code<T: PartialEq>(items: &[T], item: &T) -> u64 {
     items.iter().position(|other| other == item).expect("each value has its code") as u64
@@ -20,21 +18,29 @@ pub fn coded<T: Copy>(items: &[T], code: u64) -> Option<T> {
     items.get(usize::try_from(code).ok()?).copied()
 }
 
-pub fn row_words(row: &Row) -> [u64; ROW_WORDS] {
+/// What a row says of its file, without what it holds.
+pub fn file_words(row: &Row) -> [u64; 5] {
     [row.start, row.capacity, row.size, code(&CONDITIONS, &row.condition), code(&ACCESSES, &row.access)]
+}
+
+pub fn row_words(row: &Row) -> [u64; ROW_WORDS] {
+    let [start, capacity, size, condition, access] = file_words(row);
+    let [held, address, length] = row.held.words();
+    [start, capacity, size, condition, access, held, address, length]
 }
 
 pub fn table_words(rows: &[Row]) -> Vec<u64> {
     rows.iter().flat_map(row_words).collect()
 }
 
-/// A row from its words. One whose codes are none is as impossible as one that starts at 0.
+/// A row from its words. One whose codes are none is as impossible as one that starts at 0, and what it holds counts all the same.
 fn row_of(words: &[u64]) -> Row {
+    let held = Held::of_words([words[5], words[6], words[7]]);
     match (coded(&CONDITIONS, words[3]), coded(&ACCESSES, words[4])) {
         (Some(condition), Some(access)) => {
-            Row { start: words[0], capacity: words[1], size: words[2], condition, access }
+            Row { start: words[0], capacity: words[1], size: words[2], condition, access, held }
         }
-        _ => Row::EMPTY,
+        _ => Row { held, ..Row::EMPTY },
     }
 }
 
@@ -43,12 +49,12 @@ pub fn rows_of(words: &[u64]) -> Vec<Row> {
 }
 
 pub fn command_values(command: &Command) -> [u64; 3] {
-    [code(&OPERATIONS, &command.operation), command.address, command.length]
+    [command.operation.code(), command.address, command.length]
 }
 
 pub fn mount_words(mount: &Mount) -> Vec<u64> {
     let half = |at: usize| u64::from_le_bytes(mount.uuid[at..at + 8].try_into().expect("eight bytes"));
-    let mut words = vec![
+    vec![
         mount.block,
         mount.cnv_files as u64,
         mount.seq_files as u64,
@@ -59,16 +65,7 @@ pub fn mount_words(mount: &Mount) -> Vec<u64> {
         half(0),
         half(8),
         u64::from(mount.read_only),
-        u64::from(mount.held.is_some()),
-    ];
-    match &mount.held {
-        Some(held) => {
-            words.extend([code(&KINDS, &held.kind), u64::from(held.number)]);
-            words.extend(command_values(&held.command));
-        }
-        None => words.extend([0; 5]),
-    }
-    words
+    ]
 }
 
 /// The mount value of words; None where they hold none.
@@ -77,13 +74,6 @@ pub fn mount_of(words: &[u64]) -> Option<Mount> {
         return None;
     }
     let short = |at: usize| u32::try_from(words[at]).ok();
-    let mark = |at: usize| coded(&[false, true], words[at]);
-    let operation = coded(&OPERATIONS, words[13])?;
-    let held = Held {
-        kind: coded(&KINDS, words[11])?,
-        number: short(12)?,
-        command: Command { operation, address: words[14], length: words[15] },
-    };
     let mut uuid = [0; 16];
     uuid[..8].copy_from_slice(&words[7].to_le_bytes());
     uuid[8..].copy_from_slice(&words[8].to_le_bytes());
@@ -95,8 +85,7 @@ pub fn mount_of(words: &[u64]) -> Option<Mount> {
         group: short(4)?,
         mode: short(5)?,
         policy: coded(&POLICIES, words[6])?,
-        read_only: mark(9)?,
-        held: mark(10)?.then_some(held),
+        read_only: coded(&[false, true], words[9])?,
         uuid,
     })
 }

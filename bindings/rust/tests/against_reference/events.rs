@@ -8,7 +8,7 @@ use reference::player::types::{FileKind, Refusal, Row, Volume};
 use zonefs::words::{self, ANSWER_WORDS, MOUNT_WORDS, ROW_WORDS};
 
 use crate::convert::{
-    code, coded, command_values, mount_of, mount_words, row_words, rows_of, table_words, KINDS,
+    code, coded, command_values, file_words, mount_of, mount_words, row_words, rows_of, table_words, KINDS,
 };
 use crate::typed;
 
@@ -34,17 +34,17 @@ impl Lent {
     }
 
     /// What the reference makes of the same words; None where they hold no mount value.
-    fn volume(&self) -> Option<Volume> {
+    pub fn volume(&self) -> Option<Volume> {
         Some(Volume { mount: mount_of(&self.mount)?, cnv: rows_of(&self.cnv), seq: rows_of(&self.seq) })
     }
 }
 
-/// One thing to ask of the library, or to tell it.
+/// One thing to ask of the library, or to tell it. A file is named by any kind and any number.
 #[derive(Clone, Debug)]
 pub enum Event {
     Call(u32, u32, Request),
-    Good,
-    Failed(Vec<u8>, u32),
+    Good(u32, u32),
+    Failed(u32, u32, Vec<u8>, u32),
     Find(Vec<u8>),
     Show(u32, u32),
 }
@@ -62,8 +62,10 @@ fn ask(lent: &mut Lent, event: &Event) -> u64 {
             words::truncate(mount, cnv, seq, *kind, *number, *size, answer)
         }
         Event::Call(kind, number, Request::Flush) => words::flush(mount, cnv, seq, *kind, *number, answer),
-        Event::Good => words::complete(mount, cnv, seq, answer),
-        Event::Failed(record, given) => words::fail(mount, cnv, seq, record, *given, answer),
+        Event::Good(kind, number) => words::complete(mount, cnv, seq, *kind, *number, answer),
+        Event::Failed(kind, number, record, given) => {
+            words::fail(mount, cnv, seq, *kind, *number, record, *given, answer)
+        }
         Event::Find(name) => words::find(mount, cnv, seq, name, answer),
         Event::Show(kind, number) => words::show(mount, cnv, seq, *kind, *number, answer),
     }
@@ -74,9 +76,22 @@ impl Event {
     pub fn of_record(record: &Record, capacity_given: impl FnOnce() -> u32) -> Option<Event> {
         match record {
             Record::Call(call) => Some(Event::Call(u32::from(call.kind), call.number, call.request())),
-            Record::Good => Some(Event::Good),
-            Record::Failed(zone) => Some(Event::Failed(zone.to_vec(), capacity_given())),
+            Record::Good(file) => Some(Event::Good(u32::from(file.kind), file.number)),
+            Record::Failed(file, zone) => {
+                Some(Event::Failed(u32::from(file.kind), file.number, zone.to_vec(), capacity_given()))
+            }
             Record::Block(_) | Record::SuperBlock(_) | Record::Report(_) | Record::Options(_) => None,
+        }
+    }
+
+    /// The kind and the number that it names.
+    pub fn file(&self) -> Option<(u32, u32)> {
+        match self {
+            Event::Call(kind, number, _)
+            | Event::Good(kind, number)
+            | Event::Failed(kind, number, ..)
+            | Event::Show(kind, number) => Some((*kind, *number)),
+            Event::Find(_) => None,
         }
     }
 }
@@ -102,14 +117,18 @@ fn expect(volume: &mut Volume, event: &Event) -> Answer {
                 Reply::Done(count) => (0, vec![count]),
                 Reply::Issued(command) => (0, command_values(&command).to_vec()),
             }),
-        Event::Good => volume.succeed().map(|count| (0, vec![count])),
-        Event::Failed(record, given) => volume.fail(record, *given != 0).map(|size| (7, vec![size])),
+        Event::Good(kind, number) => kind_of(volume, *kind)
+            .and_then(|kind| volume.succeed(kind, *number))
+            .map(|count| (0, vec![count])),
+        Event::Failed(kind, number, record, given) => kind_of(volume, *kind)
+            .and_then(|kind| volume.fail(kind, *number, record, *given != 0))
+            .map(|size| (7, vec![size])),
         Event::Find(name) => {
             volume.find(name).map(|(kind, number)| (0, vec![code(&KINDS, &kind), u64::from(number)]))
         }
         Event::Show(kind, number) => kind_of(volume, *kind)
             .and_then(|kind| volume.show(kind, *number))
-            .map(|(row, mode)| (0, [&row_words(&row)[..], &[u64::from(mode)]].concat())),
+            .map(|(row, mode)| (0, [&file_words(&row)[..], &[u64::from(mode)]].concat())),
     };
     result.unwrap_or_else(refused)
 }
@@ -123,7 +142,8 @@ pub fn answer_after(before: &[u64], values: &[u64]) -> Vec<u64> {
     after
 }
 
-/// A row of the reference put back over words, where it changed. (Words that are no row stay as they are.)
+/// A row of the reference put back over words, where it changed. (Words that are no row, and those after nothing held, stay as they are: a row
+/// that is stored has changed, as it begins or ends to hold a command.)
 fn table_after(words: &[u64], before: &[Row], after: &[Row]) -> Vec<u64> {
     let mut words = words.to_vec();
     for (number, (old, new)) in before.iter().zip(after).enumerate() {
@@ -148,10 +168,7 @@ pub fn check(lent: &mut Lent, event: &Event) -> u64 {
             expected.answer = answer_after(&before.answer, &values);
             expected.cnv = table_after(&before.cnv, &old.cnv, &new.cnv);
             expected.seq = table_after(&before.seq, &old.seq, &new.seq);
-            // what leaves the mount value leaves every word, also those of a held command where there is none
-            if new.mount != old.mount {
-                expected.mount.splice(..MOUNT_WORDS, mount_words(&new.mount));
-            }
+            expected.mount.splice(..MOUNT_WORDS, mount_words(&new.mount));
             number
         }
     };

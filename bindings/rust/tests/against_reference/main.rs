@@ -4,57 +4,26 @@
 mod convert;
 mod events;
 mod formats;
+mod inputs;
+mod situations;
 mod typed;
 
 use std::collections::BTreeMap;
 
 use events::{ask_mount, check, check_mount, Event, Lent};
+use inputs::{any_event, damage};
 use reference::generator::generate;
 use reference::generator::random::Random;
-use reference::player::calls::Request;
 use reference::player::mount::Input;
 use reference::player::play::read_input;
 use reference::player::tape::{Next, Reader};
 use reference::player::types::MAX_FILES;
-use zonefs::words::{ANSWER_RECORD_REASON, ANSWER_WORDS, ANSWER_ZONE_REASON};
+use situations::Situations;
+use zonefs::words::{ANSWER_RECORD_REASON, ANSWER_WORDS, ANSWER_ZONE_REASON, MOUNT_WORDS};
 
 /// The mount of a tape; None if it isn't there whole.
 fn input_of(reader: &mut Reader) -> Option<Input> {
     read_input(reader).map(|(_, input)| input)
-}
-
-fn any_name(random: &mut Random) -> Vec<u8> {
-    let mut name = random.pick(&[&b"cnv/"[..], b"seq/", b"seq", b"cnv/0", b""]).to_vec();
-    for _ in 0..random.below(4) {
-        name.push(random.pick(b"0123456789 /a"));
-    }
-    name
-}
-
-/// Calls and completions of any kind on the words as they are.
-fn any_event(random: &mut Random) -> Event {
-    let kind = random.below(3) as u32;
-    let number = random.pick(&[0, 0, 0, 1, 1, 2, 3, 7, u32::MAX]);
-    let amount = |random: &mut Random| match random.below(4) {
-        0 => 0,
-        1 => random.below(64) * 512,
-        2 => random.extreme(),
-        _ => random.below(1 << 20),
-    };
-    match random.below(8) {
-        0 => Event::Call(kind, number, Request::Read { offset: amount(random), length: amount(random) }),
-        1 => Event::Call(kind, number, Request::Write { offset: amount(random), length: amount(random) }),
-        2 => Event::Call(kind, number, Request::Truncate { size: amount(random) }),
-        3 => Event::Call(kind, number, Request::Flush),
-        4 => Event::Good,
-        5 => {
-            let mut record = vec![0; random.pick(&[64, 64, 64, 0, 63, 65])];
-            random.fill(&mut record);
-            Event::Failed(record, random.below(2) as u32)
-        }
-        6 => Event::Find(any_name(random)),
-        _ => Event::Show(kind, number),
-    }
 }
 
 /// What the next record of a tape asks, if there is one.
@@ -127,30 +96,10 @@ fn tapes_give_the_same() {
     all_seen("a record's reason", &seen.record_reasons, &[2, 3, 4, 5, 6, 7, 8, 9]);
 }
 
-/// Changes a word or a length of what is lent.
-fn damage(random: &mut Random, lent: &mut Lent) {
-    let table = random.pick(&[0, 1, 2, 2, 2]);
-    let words = match table {
-        0 => &mut lent.cnv,
-        1 => &mut lent.seq,
-        _ => &mut lent.mount,
-    };
-    if words.is_empty() {
-        return;
-    }
-    let at = random.below(words.len().min(20) as u64) as usize;
-    words[at] = match random.below(5) {
-        0 => random.below(6),
-        1 => random.extreme(),
-        2 => words[at].wrapping_add(1),
-        3 => words[at] ^ (1 << random.below(64)),
-        _ => random.below(1 << 33),
-    };
-}
-
 #[test]
 fn any_words_give_the_same() {
     let mut seen = Seen::default();
+    let mut met = Situations::default();
     let tapes: Vec<Vec<u8>> = (0..500).map(|index| generate(4, index).bytes).collect();
     for index in 0..30_000 {
         let mut random = Random::new(3, index as u64);
@@ -166,11 +115,14 @@ fn any_words_give_the_same() {
                 damage(&mut random, &mut lent);
             }
             let from_tape = if random.percent(60) { tape_event(&mut random, &mut reader) } else { None };
-            let event = from_tape.unwrap_or_else(|| any_event(&mut random));
+            let event = from_tape.unwrap_or_else(|| any_event(&mut random, &lent));
+            let before = lent.clone();
             let number = check(&mut lent, &event);
             seen.note(number, &lent.answer);
+            met.note_event(&before, &event, number, &lent);
         }
     }
+    met.all_met();
     all_seen("number", &seen.numbers, &[0, 1, 2, 3, 4, 5, 6, 7, 8, 9, 10]);
     // Only here a record may have another length.
     all_seen("a record's reason", &seen.record_reasons, &[0]);
@@ -189,14 +141,14 @@ fn short_words_write_nothing() {
         lent.answer.extend(vec![7; longer]);
         lent.mount.extend(vec![7; longer]);
         check_mount(&mut lent, &input);
-        let shorter = random.below(ANSWER_WORDS as u64) as usize;
         if random.percent(50) {
-            lent.answer.truncate(shorter);
+            lent.answer.truncate(random.below(ANSWER_WORDS as u64) as usize);
         } else {
-            lent.mount.truncate(shorter * 2);
+            lent.mount.truncate(random.below(MOUNT_WORDS as u64) as usize);
         }
         let before = lent.clone();
-        assert_eq!(check(&mut lent, &any_event(&mut random)), 10);
+        let event = any_event(&mut random, &lent);
+        assert_eq!(check(&mut lent, &event), 10);
         assert_eq!(check_mount(&mut lent, &input), 10);
         assert_eq!(lent, before);
     }

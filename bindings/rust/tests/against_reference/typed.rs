@@ -3,11 +3,12 @@
 use reference::generator::format::FormatCase;
 use reference::player::calls::Request;
 use reference::player::mount::Input;
+use reference::player::types::Held;
 use zonefs::words::{ANSWER_VALUES, ANSWER_WORDS, MOUNT_WORDS};
 use zonefs::{FileId, FileKind, Format, MountValue, Refusal, Reply, RowWords, Source, SuperFields, Volume};
 
-use crate::convert::mount_of;
-use crate::events::{Answer, Event, Lent};
+use crate::convert::{coded, command_values, mount_of, KINDS};
+use crate::events::{self, Answer, Event, Lent};
 
 type Owned = Volume<Vec<RowWords>>;
 
@@ -50,12 +51,17 @@ fn call(volume: &mut Owned, file: FileId, request: &Request) -> Result<Reply, Re
 }
 
 /// None for a kind that there isn't, as no type has it.
+fn file(kind: u32, number: u32) -> Option<FileId> {
+    Some(FileId { kind: FileKind::from_code(u64::from(kind))?, number })
+}
+
 fn ask(volume: &mut Owned, event: &Event) -> Option<Answer> {
-    let file = |kind: u32, number: u32| Some(FileId { kind: FileKind::from_code(u64::from(kind))?, number });
     let result = match event {
         Event::Call(kind, number, request) => call(volume, file(*kind, *number)?, request).map(replied),
-        Event::Good => volume.complete().map(|count| (0, vec![count])),
-        Event::Failed(record, given) => Err(volume.fail(record, *given != 0)),
+        Event::Good(kind, number) => volume.complete(file(*kind, *number)?).map(|count| (0, vec![count])),
+        Event::Failed(kind, number, record, given) => {
+            Err(volume.fail(file(*kind, *number)?, record, *given != 0))
+        }
         Event::Find(name) => {
             volume.find(name).map(|file| (0, vec![file.kind.code(), u64::from(file.number)]))
         }
@@ -79,6 +85,7 @@ fn answered(number: u64, before: &Lent, after: &Lent) -> Answer {
 pub fn check(before: &Lent, event: &Event, number: u64, after: &Lent) {
     let Some(mut volume) = volume_of(before) else { return };
     check_value(&volume);
+    check_outstanding(&volume, before, event);
     let Some(answer) = ask(&mut volume, event) else { return };
     assert_eq!(answer, answered(number, before, after), "{event:?}");
     assert_eq!(Some(volume), volume_of(after), "{event:?}");
@@ -146,12 +153,24 @@ fn check_value(volume: &Owned) {
     );
     assert_eq!((value.uuid, value.read_only), (expected.uuid, expected.read_only));
     assert_eq!(value.policy.code(), expected.policy as u64);
-    let held = expected.held.map(|held| {
-        let command = (held.command.operation as u64, held.command.address, held.command.length);
-        (held.kind as u64, held.number, command)
-    });
-    let outstanding = value.outstanding.map(|(file, command)| {
-        (file.kind.code(), file.number, (command.kind.code(), command.address, command.length))
-    });
-    assert_eq!(outstanding, held);
+}
+
+/// What the event's file has outstanding, as the reference reads it from the words. There is no function on words for it.
+fn check_outstanding(volume: &Owned, lent: &Lent, event: &Event) {
+    let Some((kind, number)) = event.file() else { return };
+    let (Some(file), Some(kind)) = (file(kind, number), coded(&KINDS, u64::from(kind))) else { return };
+    let impossible = (10, vec![]);
+    let expected = match lent.volume().map(|volume| volume.show(kind, number)) {
+        None => impossible,
+        Some(Err(refusal)) => events::refused(refusal),
+        Some(Ok((row, _))) => match row.held {
+            Held::Nothing => (0, vec![]),
+            Held::Command(command) => (0, command_values(&command).to_vec()),
+            Held::NoCommand { .. } => impossible,
+        },
+    };
+    let outstanding = volume
+        .outstanding(file)
+        .map(|command| (0, command.map_or(vec![], |command| replied(Reply::Command(command)).1)));
+    assert_eq!(outstanding.unwrap_or_else(refused), expected, "{event:?}");
 }

@@ -8,11 +8,8 @@ sound-slot-requires c κs = search needs
 on-file-requires : tie.Need-on-file-requires
 on-file-requires c κs = search needs
 
-settle-requires : tie.Need-settle-requires
-settle-requires c κs = search needs
-
 returns : tie.Need-returns
-returns c = simp (c .settle .ensures, c .before .on-file .ensures, c .before .before .sound-slot .ensures .0)
+returns c = simp (c .on-file .ensures, c .before .sound-slot .ensures .0)
 
 pub call-on-spec : {M : Type 1} → statement M
-call-on-spec = tie.close (tie.spec sound-slot-requires on-file-requires settle-requires returns)
+call-on-spec = tie.close (tie.spec sound-slot-requires on-file-requires returns)

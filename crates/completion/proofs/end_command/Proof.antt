@@ -1,4 +1,3 @@
-use Rattle.completion.specs.Completions.{effectOf}
 use Rattle.held.proofs.Laws.{pending-safe}
 use borrow.Author.Needs.{needs}
 use Rattle.completion.proofs.end_command.Statement.{statement}
@@ -8,12 +7,9 @@ find-pending-requires : tie.Need-find-pending-requires
 find-pending-requires c κs = search needs
 
 effect-pending-requires : tie.Need-effect-pending-requires
-effect-pending-requires c κs =
-    let a = c .before .before .before .before .args in
-    pending-safe (a .m) (a .cnv .now) (a .seq .now) (c .find-pending .result) (c .find-pending .ensures .1)
+effect-pending-requires c κs = let a = c .before .before .before .before .args in pending-safe (a .m) (a .cnv .now) (a .seq .now) (a .kind) (a .number) (c .find-pending .result) (c .find-pending .ensures .1)
 
 returns : tie.Need-returns
-unfolding effectOf
 returns c = simp (c .effect-pending .ensures, c .before .find-pending .ensures .0)
 
 pub end-command-spec : {M : Type 1} → statement M

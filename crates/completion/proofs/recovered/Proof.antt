@@ -7,15 +7,12 @@ use Rattle.completion.proofs.recovered.Tie as tie
 nothing-lost-requires : tie.Need-nothing-lost-requires
 nothing-lost-requires c κs = search needs
 
-without-held-requires : tie.Need-without-held-requires
-without-held-requires c κs = search needs
-
 failing-requires : tie.Need-failing-requires
 failing-requires c κs = search needs
 
 returns : tie.Need-returns
 unfolding recovered
-returns c = simp (sym (c .before .before .before .nothing-lost .ensures) ∙ c .before .before .if1 .taken, c .failing .ensures, c .before .without-held .ensures)
+returns c = simp (sym (c .before .before .nothing-lost .ensures) ∙ c .before .if1 .taken, c .failing .ensures)
 
 recovered-row-requires : tie.Need-recovered-row-requires
 recovered-row-requires c κs = search needs
@@ -32,7 +29,6 @@ recovered-spec =
     tie.close
     (tie.spec
     nothing-lost-requires
-    without-held-requires
     failing-requires
     returns
     recovered-row-requires

@@ -7,7 +7,7 @@ check-pending-requires : tie.Need-check-pending-requires
 check-pending-requires c κs = search needs
 
 returns : tie.Need-returns
-returns c = (c .check-pending .ensures, simp (c .check-pending .ensures) (pending-tells (c .before .before .before .args .m) (c .before .before .before .args .cnv .now) (c .before .before .before .args .seq .now)))
+returns c = let a = c .before .before .before .args in (c .check-pending .ensures, simp (c .check-pending .ensures) (pending-tells (a .m) (a .cnv .now) (a .seq .now) (a .kind) (a .number)))
 
 pub find-pending-spec : {M : Type 1} → statement M
 find-pending-spec = tie.close (tie.spec check-pending-requires returns)

@@ -7,6 +7,36 @@ use Rattle.table.proofs.row_at.Tie as tie
 mul-b : tie.Need-mul-b
 mul-b c = search needs
 
+add-held-read : tie.Need-add-held-read
+add-held-read c = search needs
+
+mul-held-read : tie.Need-mul-held-read
+mul-held-read c = search needs
+
+shared-slice-read-held-read : tie.Need-shared-slice-read-held-read
+shared-slice-read-held-read c = search needs
+
+add-held-read-2 : tie.Need-add-held-read-2
+add-held-read-2 c = search needs
+
+mul-held-read-2 : tie.Need-mul-held-read-2
+mul-held-read-2 c = search needs
+
+shared-slice-read-held-read-2 : tie.Need-shared-slice-read-held-read-2
+shared-slice-read-held-read-2 c = search needs
+
+add-held-read-3 : tie.Need-add-held-read-3
+add-held-read-3 c = search needs
+
+mul-held-read-3 : tie.Need-mul-held-read-3
+mul-held-read-3 c = search needs
+
+shared-slice-read-held-read-3 : tie.Need-shared-slice-read-held-read-3
+shared-slice-read-held-read-3 c = search needs
+
+held-read-requires : tie.Need-held-read-requires
+held-read-requires c κs = search needs
+
 mul-slot-of : tie.Need-mul-slot-of
 mul-slot-of c = search needs
 
@@ -54,13 +84,23 @@ slot-of-requires c κs = search needs
 
 returns : tie.Need-returns
 unfolding rowAt
-returns c = rw add-zero (c .slot-of .ensures)
+returns c = rw (add-zero, ← c .before .before .before .before .before .before .held-read .ensures) (c .slot-of .ensures)
 
 pub row-at-spec : {M : Type 1} → statement M
 row-at-spec =
     tie.close
     (tie.spec
     mul-b
+    add-held-read
+    mul-held-read
+    shared-slice-read-held-read
+    add-held-read-2
+    mul-held-read-2
+    shared-slice-read-held-read-2
+    add-held-read-3
+    mul-held-read-3
+    shared-slice-read-held-read-3
+    held-read-requires
     mul-slot-of
     shared-slice-read-slot-of
     add-slot-of

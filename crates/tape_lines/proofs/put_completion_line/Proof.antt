@@ -11,6 +11,9 @@ letters-of-requires c κs = search needs
 put-letters-requires : tie.Need-put-letters-requires
 put-letters-requires c κs = search needs
 
+put-two-fields-requires : tie.Need-put-two-fields-requires
+put-two-fields-requires c κs = search needs
+
 put-completion-answer-requires : tie.Need-put-completion-answer-requires
 put-completion-answer-requires c κs = search needs
 
@@ -23,10 +26,11 @@ same-length c = search needs
 returns : tie.Need-returns
 unfolding completionLine
 returns c =
-    let mark = rw (c .before .before .before .before .before .before .before .before .before .before .before .letters-of .ensures) at (c .before .before .before .before .before .before .before .before .before .before .put-letters .ensures) in
+    let mark = rw (c .before .before .before .before .before .before .before .before .before .before .before .before .before .before .before .letters-of .ensures) at (c .before .before .before .before .before .before .before .before .before .before .before .before .before .before .put-letters .ensures) in
+    let file = c .before .before .before .before .before .before .before .before .before .before .put-two-fields .ensures in
     let answer = c .before .before .before .before .before .before .put-completion-answer .ensures in
     let end = c .before .before .put-byte .ensures in
-    (then (then mark (answer .0)) end, omega (arith, mark .place, answer .1, end .place))
+    (then (then (then mark (file .0)) (answer .0)) end, omega (arith, mark .place, file .1, answer .1, end .place))
 
 pub put-completion-line-spec : {M : Type 1} → statement M
 put-completion-line-spec =
@@ -34,6 +38,7 @@ put-completion-line-spec =
     (tie.spec
     letters-of-requires
     put-letters-requires
+    put-two-fields-requires
     put-completion-answer-requires
     put-byte-requires
     same-length

@@ -1,7 +1,6 @@
 use mathlib.Core.Path.{_≡_}
-use Prim.Native.Nat.{_+_, _-_}
+use Prim.Native.Nat.{ℕ, _+_, _-_}
 use native.Mathlib.Omega.{arith}
-use Rattle.tape_records.specs.Records.{markBytes, endBytes}
 use borrow.Author.Needs.{needs}
 use Rattle.tape_records.proofs.end_record.Statement.{statement}
 use Rattle.tape_records.proofs.end_record.Tie as tie
@@ -24,10 +23,12 @@ part-result-start c = search needs
 part-result-end : tie.Need-part-result-end
 part-result-end c = search needs
 
+-- from a place to a later one there are as many bytes as between their distances from an earlier one
+between : (at m n : ℕ) → at + n - (at + m) ≡ n - m
+between at m n = omega arith
+
 returns : tie.Need-returns
-returns c = let a = c .before .before .before .args in
-    let size : a .at + c .before .end-bytes .result - (a .at + markBytes) ≡ endBytes (a .done) - markBytes = omega (arith, c .before .end-bytes .ensures .0) in
-    rw size
+returns c = simp (between, c .before .end-bytes .ensures .0)
 
 pub end-record-spec : {M : Type 1} → statement M
 end-record-spec =

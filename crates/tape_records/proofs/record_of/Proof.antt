@@ -44,8 +44,14 @@ on-file-at-requires-4 c κs = rw (c .enum-told4 .given .1) at (c .before .before
 enum-told-5 : tie.Need-enum-told-5
 enum-told-5 c = search needs
 
+end-at-requires : tie.Need-end-at-requires
+end-at-requires c κs = rw (c .enum-told5 .given .1) at (c .before .before .before .pre)
+
 enum-told-6 : tie.Need-enum-told-6
 enum-told-6 c = search needs
+
+end-at-requires-2 : tie.Need-end-at-requires-2
+end-at-requires-2 c κs = rw (c .enum-told6 .given .1) at (c .before .before .before .pre)
 
 enum-told-7 : tie.Need-enum-told-7
 enum-told-7 c = search needs
@@ -63,10 +69,10 @@ returns-4 : tie.Need-returns-4
 returns-4 c = (rw (c .before .enum-told4 .given .1) (c .on-file-at4 .ensures .0), c .on-file-at4 .ensures .1)
 
 returns-5 : tie.Need-returns-5
-returns-5 c = (rw (c .enum-told5 .given .1), rw (c .enum-told5 .given .1) at (c .before .before .before .pre))
+returns-5 c = (rw (c .before .enum-told5 .given .1) (c .end-at .ensures .0), c .end-at .ensures .1)
 
 returns-6 : tie.Need-returns-6
-returns-6 c = (rw (c .enum-told6 .given .1), rw (c .enum-told6 .given .1) at (c .before .before .before .pre))
+returns-6 c = (rw (c .before .enum-told6 .given .1) (c .end-at2 .ensures .0), c .end-at2 .ensures .1)
 
 returns-7 : tie.Need-returns-7
 returns-7 c = search needs
@@ -89,7 +95,9 @@ record-of-spec =
     enum-told-4
     on-file-at-requires-4
     enum-told-5
+    end-at-requires
     enum-told-6
+    end-at-requires-2
     enum-told-7
     returns
     returns-2

@@ -1,4 +1,11 @@
-use mathlib.Core.Path.{refl}
+use mathlib.Core.Path.{_≡_, refl}
+use mathlib.Core.List.{List}
+use Prim.Native.Nat.{ℕ, _+_}
+use Rattle.tape_records.specs.declared.Mark.{Mark}
+use Rattle.engine.specs.Engine.{Step}
+use Rattle.tape_turns.specs.declared.Turned.{Turned}
+use Rattle.tape_turns.specs.Turns.{completionTurn}
+use Rattle.tape_turns.specs.Facts.{Takes}
 use borrow.Author.Needs.{needs}
 use Rattle.tape_turns.proofs.end_turn.Statement.{statement}
 use Rattle.tape_turns.proofs.end_turn.Tie as tie
@@ -30,10 +37,18 @@ same-length-2 c = search needs
 same-length-3 : tie.Need-same-length-3
 same-length-3 c = search needs
 
+-- a step that is the same has the same turn
+same-step : (next : ℕ) (m : Mark) (kind number : ℕ) {to : ℕ} {t u : Step} {before after cnv seq : List ℕ} {r : Turned} → u ≡ t
+    → Takes (completionTurn next m kind number t) before after to r cnv seq → Takes (completionTurn next m kind number u) before after to r cnv seq
+same-step next m kind number e h = rw e h
+
 returns : tie.Need-returns
-returns c = let put = c .before .before .put-completion-line .ensures in
-    rw (← c .before .before .before .before .before .before .before .before .before .before .before .before .before .end-record .ensures, ← c .before .before .before .before .before .before .before .before .before .before .before .before .before .before .end-bytes .ensures .0, ← c .before .before .before .before .before .before .before .before .before .before .before .before .end-mark .ensures, c .before .before .before .before .before .before .before .before .before .end-command .ensures)
-    (record { line = put .0; rest = refl; room = put .1 })
+returns c = let a = c .before .before .before .before .before .before .before .before .before .before .before .before .before .before .before .before .before .before .before .args in
+    let size = c .before .before .before .before .before .before .before .before .before .before .before .before .before .before .end-bytes in
+    let mark = c .before .before .before .before .before .before .before .before .before .before .before .before .end-mark in
+    let put = c .before .before .put-completion-line .ensures in
+    rw (← c .before .before .before .before .before .before .before .before .before .before .before .before .before .end-record .ensures, ← size .ensures .0, ← mark .ensures)
+    (same-step (a .at + size .result) (mark .result) (a .kind) (a .number) (c .before .before .before .before .before .before .before .before .before .end-command .ensures) (record { line = put .0; rest = refl; room = put .1 }))
 
 pub end-turn-spec : {M : Type 1} → statement M
 end-turn-spec =

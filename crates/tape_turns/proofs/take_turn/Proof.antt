@@ -40,7 +40,7 @@ same-length-3 c = search needs
 
 returns : tie.Need-returns
 unfolding turnAt
-returns c = rw (sym (c .before .before .before .before .before .before .before .before .before .record-at .ensures .0) ∙ c .before .before .before .before .before .before .before .found .given .1) (c .before .before .call-turn .ensures)
+returns c = rw (sym (c .before .before .before .before .before .before .before .before .before .before .before .before .before .record-at .ensures .0) ∙ c .before .before .before .before .before .before .before .before .before .before .before .found .given .1) (c .before .before .before .before .before .before .call-turn .ensures)
 
 same-length-4 : tie.Need-same-length-4
 same-length-4 c = search needs

@@ -1,0 +1,21 @@
+-- Inputs about different files commute, where neither marks the mount read-only: each is answered as if the other hadn't come, and the state after
+-- both is the same in either order.
+use mathlib.Core.Path.{_≡_}
+use Rattle.engine.specs.Engine.{State, Input, step}
+use Rattle.engine.specs.Frame.{kindIn, numberIn}
+
+-- they name different files
+abbrev pub Apart : Input → Input → Type 0
+Apart x y = kindIn x ≡ kindIn y → numberIn x ≡ numberIn y → ⊥
+
+-- from this state the input leaves the mark as it is
+abbrev pub Unmarking : State → Input → Type 0
+Unmarking s x = step s x .state .mount .readonly ≡ s .mount .readonly
+
+pub record Commutes (s : State) (x y : Input) : Type 0 where
+  pub first : step (step s y .state) x .reply ≡ step s x .reply
+  pub second : step (step s x .state) y .reply ≡ step s y .reply
+  pub state : step (step s x .state) y .state ≡ step (step s y .state) x .state
+
+unfoldable pub Commuting : Type 0
+Commuting = (s : State) (x y : Input) → Apart x y → Unmarking s x → Unmarking s y → Commutes s x y
