@@ -258,48 +258,48 @@ fn formats(input: &Input) {
     line("a super block made, beside the reference", times[0], times[1], "");
 }
 
-fn appends(input: &Input) {
-    const TURNS: u64 = 20_000;
+/// The time of a write with its completion, the library's and the reference's: of `passes` over the files, `writes` in each, from a table as the
+/// mount left it.
+fn appending(
+    input: &Input,
+    (passes, writes): (u64, u64),
+    library: impl Fn(&mut Lent, u64),
+    reference: impl Fn(&mut Volume, u64),
+) -> Vec<f64> {
     let mut lent = Lent::new();
     assert_eq!(lent.mount(input), 0);
-    let fresh = volume(input);
     let seq = lent.seq.clone();
-    let mut library = || {
-        lent.seq.copy_from_slice(&seq);
-        time(TURNS, |turn| assert_eq!(black_box(lent.append(turn * BLOCK)), 0))
-    };
+    let fresh = volume(input);
     let mut held = fresh.clone();
-    let mut other = || {
-        held.seq.copy_from_slice(&fresh.seq);
-        time(TURNS, |turn| assert_eq!(black_box(append(&mut held, turn * BLOCK)), BLOCK))
+    let mut ours = || {
+        lent.seq.copy_from_slice(&seq);
+        time(passes, |pass| library(&mut lent, pass * BLOCK))
     };
-    let times = medians(TURNS, &mut [&mut library, &mut other]);
+    let mut theirs = || {
+        held.seq.copy_from_slice(&fresh.seq);
+        time(passes, |pass| reference(&mut held, pass * BLOCK))
+    };
+    medians(passes * writes, &mut [&mut ours, &mut theirs])
+}
+
+fn appends(input: &Input) {
+    let library = |lent: &mut Lent, offset| assert_eq!(black_box(lent.append(offset)), 0);
+    let reference = |held: &mut Volume, offset| assert_eq!(black_box(append(held, offset)), BLOCK);
+    let times = appending(input, (20_000, 1), library, reference);
     line("a write with its completion, beside the reference", times[0], times[1], "   (target 0.80)");
 }
 
-/// Each file has a write outstanding, and only then they end, the last one first. A turn is one write with its completion.
+/// Each file has a write outstanding, and only then they end, the last one first.
 fn busy_appends(input: &Input) {
-    const PASSES: u64 = 40;
-    let mut lent = Lent::new();
-    assert_eq!(lent.mount(input), 0);
-    let fresh = volume(input);
-    let seq = lent.seq.clone();
-    let mut library = || {
-        lent.seq.copy_from_slice(&seq);
-        time(PASSES, |pass| {
-            (0..BUSY_FILES).for_each(|file| assert_eq!(black_box(lent.write(file, pass * BLOCK)), 0));
-            (0..BUSY_FILES).rev().for_each(|file| assert_eq!(black_box(lent.complete(file)), 0));
-        })
+    let library = |lent: &mut Lent, offset| {
+        (0..BUSY_FILES).for_each(|file| assert_eq!(black_box(lent.write(file, offset)), 0));
+        (0..BUSY_FILES).rev().for_each(|file| assert_eq!(black_box(lent.complete(file)), 0));
     };
-    let mut held = fresh.clone();
-    let mut other = || {
-        held.seq.copy_from_slice(&fresh.seq);
-        time(PASSES, |pass| {
-            (0..BUSY_FILES).for_each(|file| write(&mut held, file, pass * BLOCK));
-            (0..BUSY_FILES).rev().for_each(|file| assert_eq!(black_box(complete(&mut held, file)), BLOCK));
-        })
+    let reference = |held: &mut Volume, offset| {
+        (0..BUSY_FILES).for_each(|file| write(held, file, offset));
+        (0..BUSY_FILES).rev().for_each(|file| assert_eq!(black_box(complete(held, file)), BLOCK));
     };
-    let times = medians(PASSES * u64::from(BUSY_FILES), &mut [&mut library, &mut other]);
+    let times = appending(input, (40, u64::from(BUSY_FILES)), library, reference);
     line("the same on 500 files busy at once, beside the reference", times[0], times[1], "");
 }
 
