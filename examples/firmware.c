@@ -1,6 +1,7 @@
 /*
  * A small program on the proved library: formats a disk, mounts it, keeps two files busy at once, has an append fail halfway, recovers, and goes
- * on. Of the failure it first hands over another zone's record, to show how a refusal says what is bad.
+ * on. Of the failure it first hands over another zone's record, to show how a refusal says what is bad. Then it mounts the disk again with the option
+ * explicit-open, under which a file is opened before it is written and closed afterwards, and no more are open at once than the disk can take.
  * The disk is played by this program: it makes up the zone report, and the record that comes with the failure. On Linux the bytes that
  * BLKREPORTZONE gives, and those of a zone's record, can be passed on as they come.
  * It prints each step, and ends with status 1 where a step answers otherwise than it should. Build and run: docs/LINKING.md.
@@ -18,11 +19,17 @@
 #define ZONE_SECTORS 524288u
 #define CAPACITY_SECTORS 393216u
 #define ROWS 4u /* this volume has two files of each kind; ZONEFS_MOST_FILES rows are enough for any */
+#define OPEN_LIMIT 1u   /* so many zones the disk can have open */
+#define ACTIVE_LIMIT 2u /* and so many open or closed: neither empty nor full */
 
 /* A controller keeps these for each volume. */
 static uint64_t cnv[ROWS * ZONEFS_ROW_WORDS];
 static uint64_t seq[ROWS * ZONEFS_ROW_WORDS];
 static struct zonefs_volume volume;
+
+/* What the disk gives for a mount: its first bytes, and its zone report. */
+static uint8_t super_block[ZONEFS_SUPER_BYTES];
+static uint8_t report[ZONEFS_HEADER_BYTES + ZONES * ZONEFS_ZONE_BYTES];
 
 static void put(uint8_t *bytes, uint64_t value, unsigned count) {
   unsigned i;
@@ -41,11 +48,8 @@ static void make_zone(uint8_t *record, uint64_t start, unsigned type, unsigned c
   put(record + ZONEFS_RECORD_CAPACITY, capacity, 8);
 }
 
-/*
- * Three conventional zones, then a sequential one with a block written, and a full one. A full zone has no pointer: what the disk leaves in
- * that field, here 0, is passed on too.
- */
-static void make_report(uint8_t *report) {
+/* Three conventional zones, then two sequential ones, of which the first has a block or more: its pointer, and condition and pointer of the other. */
+static void make_report(uint64_t pointer, unsigned other_condition, uint64_t other_pointer) {
   unsigned i;
   uint8_t *zones = report + ZONEFS_HEADER_BYTES;
   memset(report, 0, ZONEFS_HEADER_BYTES);
@@ -53,8 +57,8 @@ static void make_report(uint8_t *report) {
   put(report + ZONEFS_REPORT_FLAGS, ZONEFS_CAPACITY_GIVEN, 4);
   for (i = 0; i < 3; i++)
     make_zone(zones + i * ZONEFS_ZONE_BYTES, (uint64_t)i * ZONE_SECTORS, 1, 0, ZONE_SECTORS, 0);
-  make_zone(zones + 3 * ZONEFS_ZONE_BYTES, 3ull * ZONE_SECTORS, 2, 2, CAPACITY_SECTORS, 3ull * ZONE_SECTORS + BLOCK / SECTOR);
-  make_zone(zones + 4 * ZONEFS_ZONE_BYTES, 4ull * ZONE_SECTORS, 2, 14, CAPACITY_SECTORS, 0);
+  make_zone(zones + 3 * ZONEFS_ZONE_BYTES, 3ull * ZONE_SECTORS, 2, 2, CAPACITY_SECTORS, pointer);
+  make_zone(zones + 4 * ZONEFS_ZONE_BYTES, 4ull * ZONE_SECTORS, 2, other_condition, CAPACITY_SECTORS, other_pointer);
 }
 
 /* Prints what a refusal has beside its number: two of them say what is bad. */
@@ -130,7 +134,7 @@ static void show_full_file(void) {
  * A super block with no feature: owner and group 0, mode 0640. The report's first record is that of zone 0, which is conventional and so not to be
  * finished. A disk would get the block as its first bytes.
  */
-static void format_disk(uint8_t *super_block, const uint8_t *report) {
+static void format_disk(void) {
   static const struct zonefs_volume_super values = {"firmware", 8, {0}, 0, 0, 0, 0};
   step("format",
        zonefs_volume_format(BLOCK, super_block, ZONEFS_SUPER_BYTES, &values, report + ZONEFS_HEADER_BYTES, ZONEFS_ZONE_BYTES,
@@ -138,15 +142,17 @@ static void format_disk(uint8_t *super_block, const uint8_t *report) {
        ZONEFS_OK);
 }
 
-/* Lends the tables to the volume, and mounts it from the disk's first bytes and its report. */
+/*
+ * Lends the tables to the volume, and mounts it from the disk's first bytes and its report. The first sequential zone has a block, and the second is
+ * full. A full zone has no pointer: what the disk leaves in that field, here 0, is passed on too. Files are written without being opened first, and
+ * so there are no limits.
+ */
 static void mount_volume(void) {
-  static uint8_t super_block[ZONEFS_SUPER_BYTES];
-  static uint8_t report[ZONEFS_HEADER_BYTES + ZONES * ZONEFS_ZONE_BYTES];
-  make_report(report);
-  format_disk(super_block, report);
+  make_report(3ull * ZONE_SECTORS + BLOCK / SECTOR, 14, 0);
+  format_disk();
   zonefs_volume_lend(&volume, cnv, ROWS * ZONEFS_ROW_WORDS, seq, ROWS * ZONEFS_ROW_WORDS);
   step("mount",
-       zonefs_volume_mount(&volume, BLOCK, super_block, sizeof(super_block), "errors=repair", report, sizeof(report)),
+       zonefs_volume_mount(&volume, BLOCK, super_block, sizeof(super_block), "errors=repair", report, sizeof(report), 0, 0),
        ZONEFS_OK);
 }
 
@@ -176,6 +182,59 @@ static void fail_halfway(uint64_t size) {
   step("the disk failed halfway", failed(0, 3, 3ull * ZONE_SECTORS + (size + BLOCK) / SECTOR), ZONEFS_FAILED);
 }
 
+/* Prints how many files the account has, and stops the program if they aren't as many as expected. */
+static void count(const char *what, uint64_t open, uint64_t active) {
+  const uint64_t *account = volume.account;
+  printf("%-34s %2" PRIu64 " open, %" PRIu64 " active\n", what, account[ZONEFS_ACCOUNT_OPEN], account[ZONEFS_ACCOUNT_ACTIVE]);
+  if (account[ZONEFS_ACCOUNT_OPEN] != open || account[ZONEFS_ACCOUNT_ACTIVE] != active) {
+    printf("expected %" PRIu64 " and %" PRIu64 "\n", open, active);
+    exit(1);
+  }
+}
+
+static struct zonefs_volume_answer open_file(uint32_t file) {
+  return zonefs_volume_open(&volume, ZONEFS_SEQ, file);
+}
+
+static struct zonefs_volume_answer close_file(uint32_t file) {
+  return zonefs_volume_close(&volume, ZONEFS_SEQ, file);
+}
+
+/*
+ * The disk as it is now, mounted with explicit-open, in the memory that the first mount had. Both files are active, as both have something in them and
+ * are not full.
+ */
+static void mount_to_open(uint64_t size) {
+  make_report(3ull * ZONE_SECTORS + size / SECTOR, 2, 4ull * ZONE_SECTORS + BLOCK / SECTOR);
+  step("mount with explicit-open",
+       zonefs_volume_mount(&volume, BLOCK, super_block, sizeof(super_block), "errors=repair,explicit-open", report, sizeof(report),
+                           OPEN_LIMIT, ACTIVE_LIMIT),
+       ZONEFS_OK);
+  count("after the mount", 0, 2);
+}
+
+/*
+ * The first open of a file and its last close are commands for the disk, which opens and closes the zone; those between only count. Nothing is
+ * written to a file that isn't open, and no second one is opened where the disk can have one zone open.
+ */
+static void open_by_hand(uint64_t size) {
+  step("append to seq/0, which is not open", append(0, size, 4096), ZONEFS_NOT_OPEN);
+  step("open seq/0", open_file(0), ZONEFS_OK);
+  step("seq/0's open is done", done(0), ZONEFS_OK);
+  step("open seq/0 for a second writer", open_file(0), ZONEFS_OK);
+  step("open seq/1, above the limit", open_file(1), ZONEFS_OPEN_LIMIT);
+  count("with seq/0 open twice", 1, 2);
+  step("append 4096 to seq/0", append(0, size, 4096), ZONEFS_OK);
+  step("seq/0's append is done", done(0), ZONEFS_OK);
+  step("close seq/0", close_file(0), ZONEFS_OK);
+  step("close seq/0, the last time", close_file(0), ZONEFS_OK);
+  step("seq/0's close is done", done(0), ZONEFS_OK);
+  step("close seq/0, which is not open", close_file(0), ZONEFS_NOT_OPEN);
+  step("open seq/1", open_file(1), ZONEFS_OK);
+  step("the disk failed to open it", failed(1, 4, 4ull * ZONE_SECTORS + BLOCK / SECTOR), ZONEFS_FAILED);
+  count("after a failed open", 0, 2);
+}
+
 int main(void) {
   uint64_t size;
 
@@ -194,10 +253,15 @@ int main(void) {
   size = size_now("show seq/0", 0);
   step("append 4096 to seq/0", append(0, size, 4096), ZONEFS_OK);
   step("seq/0's append is done", done(0), ZONEFS_OK);
-  if (size_now("show seq/0", 0) != 20480) {
+  size = size_now("show seq/0", 0);
+  if (size != 20480) {
     printf("the file should have five blocks\n");
     return 1;
   }
   printf("recovered\n");
+
+  mount_to_open(size);
+  open_by_hand(size);
+  printf("closed\n");
   return 0;
 }

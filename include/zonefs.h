@@ -7,8 +7,9 @@
  * a command, the caller has the disk do it, and then tells the library how that went.
  *
  *   zonefs_format, zonefs_super_fields                  make a disk's first bytes, or read the values in them; no mount is needed
- *   zonefs_mount                                        once, with the disk's first bytes and its zone report
+ *   zonefs_mount                                        once, with the disk's first bytes, its zone report and its limits
  *   zonefs_read, _write, _truncate, _flush              refused, answered at once, or a command for the disk, which is then outstanding
+ *   zonefs_open, zonefs_close                           the same, around the writes to a seq file, which the option explicit-open demands
  *   zonefs_complete, zonefs_fail                        a file's outstanding command was done, or failed; its next call may follow
  *   zonefs_find, zonefs_show                            look up a name or a file, at any time
  *
@@ -18,8 +19,10 @@
  * that the caller lends to each call:
  *
  *   mount words   ZONEFS_MOUNT_WORDS words of 64 bits, written by zonefs_mount; zonefs_fail may set their read-only mark; keep them as they are
- *   cnv, seq      a table for the files of each kind, ZONEFS_ROW_WORDS words of 64 bits for each file, with the command that it has outstanding;
- *                 written by zonefs_mount, and changed by the calls and by what ends their commands
+ *   account words ZONEFS_ACCOUNT_WORDS words of 64 bits: how many seq files are open and how many active, and the limit of each; written by
+ *                 zonefs_mount, and corrected by zonefs_open and zonefs_close and by what ends commands
+ *   cnv, seq      a table for the files of each kind, ZONEFS_ROW_WORDS words of 64 bits for each file, with its opens and the command that it has
+ *                 outstanding; written by zonefs_mount, and changed by the calls and by what ends their commands
  *   answer words  ZONEFS_ANSWER_WORDS words of 64 bits, overwritten with what the call answers beside its number
  *
  * Every slice is lent as a pointer and the number of its elements. The pointer must not be null, also where the number is 0, and must be
@@ -27,10 +30,10 @@
  * memory holds: each function answers for every content, and reads or writes nothing outside the slices. One thread at a time may use
  * one mount's memory.
  *
- * Each function but zonefs_checksum returns one of the numbers below. Where a slice for mount words or answer words is too short, one for a
- * uuid, or to read a label into, has another length than it should have, or the mount words hold no mount value, the number is ZONEFS_IMPOSSIBLE
- * and nothing is written. Otherwise the answer words are written, also with a refusal: word 0 is the number of values, and words 1 to 6 are the
- * values, with 0 after the last.
+ * Each function but zonefs_checksum returns one of the numbers below. Where a slice for mount words, account words or answer words is too short,
+ * one for a uuid, or to read a label into, has another length than it should have, the mount words that are read hold no mount value, or an account
+ * word that is read is above 0xFFFFFFFF, the number is ZONEFS_IMPOSSIBLE and nothing is written. Otherwise the answer words are written, also with a
+ * refusal: word 0 is the number of values, and words 1 to 6 are the values, with 0 after the last.
  *
  * A table has as many rows as its words divided by ZONEFS_ROW_WORDS, rounded down. Too few rows for the files answer ZONEFS_TOO_FEW_ROWS to a mount
  * and ZONEFS_IMPOSSIBLE after it; more than needed are left alone.
@@ -47,13 +50,17 @@
 extern "C" {
 #endif
 
-/* The words of a mount value, of a row, and of an answer. */
-#define ZONEFS_MOUNT_WORDS 10
-#define ZONEFS_ROW_WORDS 8
+/* The words of a mount value, of an account, of a row, and of an answer. */
+#define ZONEFS_MOUNT_WORDS 11
+#define ZONEFS_ACCOUNT_WORDS 4
+#define ZONEFS_ROW_WORDS 9
 #define ZONEFS_ANSWER_WORDS 7
 
 /* The most files of a kind, so that tables of this many rows are always long enough. */
 #define ZONEFS_MOST_FILES 1022
+
+/* The most opens of one file. */
+#define ZONEFS_MOST_OPENS 65535
 
 /* The bytes of a super block, and of the label and the uuid in it. */
 #define ZONEFS_SUPER_BYTES 4096
@@ -77,7 +84,11 @@ enum {
   ZONEFS_FAILED = 7,              /* the disk failed it, and that was digested; one value: the file's new size */
   ZONEFS_NOTHING_OUTSTANDING = 8, /* completion of a file that has nothing outstanding */
   ZONEFS_BAD_RECORD = 9,          /* the failed completion's zone record doesn't fit; the command stays outstanding; one value: the reason */
-  ZONEFS_IMPOSSIBLE = 10,         /* mount value or tables impossible, or words or tables too short; a uuid or a label buffer of another length */
+  ZONEFS_IMPOSSIBLE = 10,         /* mount value, account or tables impossible, or words or tables too short; a uuid or label buffer of another length */
+  ZONEFS_OPEN_LIMIT = 11,         /* explicit-open: an open that would raise the open files above their limit */
+  ZONEFS_ACTIVE_LIMIT = 12,       /* explicit-open: an open that would raise the active files above theirs */
+  ZONEFS_NOT_OPEN = 13,           /* close of a seq file that isn't open; with explicit-open also a write to one */
+  ZONEFS_TOO_MANY_OPENS = 14,     /* open of a file that has ZONEFS_MOST_OPENS opens, or more */
   ZONEFS_BAD_BLOCK = 20,          /* block neither 512 nor 4096 */
   ZONEFS_SUPER_LENGTH = 21,       /* super block: length, magic, checksum */
   ZONEFS_SUPER_MAGIC = 22,
@@ -131,7 +142,9 @@ enum {
   ZONEFS_COMMAND_WRITE = 1,
   ZONEFS_COMMAND_RESET = 2,
   ZONEFS_COMMAND_FINISH = 3,
-  ZONEFS_COMMAND_FLUSH = 4
+  ZONEFS_COMMAND_FLUSH = 4,
+  ZONEFS_COMMAND_OPEN = 5,
+  ZONEFS_COMMAND_CLOSE = 6
 };
 
 /* The condition and the access of a file. Write includes read. */
@@ -148,11 +161,11 @@ enum { ZONEFS_REMOUNT_RO = 0, ZONEFS_ZONE_RO = 1, ZONEFS_ZONE_OFFLINE = 2, ZONEF
 enum {
   ZONEFS_ANSWER_VALUES = 0,
 
-  /* zonefs_read, _write, _truncate, _flush: 0 with ZONEFS_AT_ONCE value; zonefs_complete: 0 */
+  /* zonefs_read, _write, _truncate, _flush, _open, _close: 0 with ZONEFS_AT_ONCE value; zonefs_complete: 0 */
   ZONEFS_ANSWER_COUNT = 1,      /* the bytes read or written */
 
-  /* zonefs_read, _write, _truncate, _flush: 0 with ZONEFS_COMMANDED values */
-  ZONEFS_ANSWER_COMMAND = 1,    /* ZONEFS_COMMAND_READ to ZONEFS_COMMAND_FLUSH */
+  /* zonefs_read, _write, _truncate, _flush, _open, _close: 0 with ZONEFS_COMMANDED values */
+  ZONEFS_ANSWER_COMMAND = 1,    /* ZONEFS_COMMAND_READ to ZONEFS_COMMAND_CLOSE */
   ZONEFS_ANSWER_ADDRESS = 2,    /* in bytes from the start of the disk */
   ZONEFS_ANSWER_LENGTH = 3,     /* in bytes, 0 but for reads and writes */
 
@@ -196,8 +209,11 @@ enum {
 enum { ZONEFS_AT_ONCE = 1, ZONEFS_COMMANDED = 3 };
 
 /*
- * The words of a row. The last three are the command that the file has outstanding. A call that gives a command stores it there; a mount, and a
- * command that is no longer outstanding, leave 0 in all three. Where ZONEFS_ROW_HELD is 0, the two after it are not looked at, whatever they are.
+ * The words of a row. Three of them are the command that the file has outstanding. A call that gives a command stores it there; a mount, a command
+ * that is no longer outstanding, and an open or a close that counts and gives none leave 0 in all three. Where ZONEFS_ROW_HELD is 0, the two after
+ * it are not looked at, whatever they are.
+ * ZONEFS_ROW_OPENS is how often the file was opened and not closed again. A seq file is open while that is not 0; of a cnv file it counts nowhere. A
+ * mount leaves 0, and so does what takes write access from the file: in a row without it any other number is impossible.
  */
 enum {
   ZONEFS_ROW_START = 0,        /* the first sector */
@@ -205,14 +221,15 @@ enum {
   ZONEFS_ROW_SIZE = 2,         /* in bytes */
   ZONEFS_ROW_CONDITION = 3,
   ZONEFS_ROW_ACCESS = 4,
-  ZONEFS_ROW_HELD = 5,         /* 0 where nothing is outstanding, else 1 + ZONEFS_COMMAND_READ to 1 + ZONEFS_COMMAND_FLUSH */
+  ZONEFS_ROW_HELD = 5,         /* 0 where nothing is outstanding, else 1 + ZONEFS_COMMAND_READ to 1 + ZONEFS_COMMAND_CLOSE */
   ZONEFS_ROW_HELD_ADDRESS = 6, /* in bytes from the start of the disk */
-  ZONEFS_ROW_HELD_LENGTH = 7   /* in bytes, 0 but for reads and writes */
+  ZONEFS_ROW_HELD_LENGTH = 7,  /* in bytes, 0 but for reads and writes */
+  ZONEFS_ROW_OPENS = 8         /* at most ZONEFS_MOST_OPENS, by zonefs_open */
 };
 
 /*
- * The words of a mount value. Words hold none where a number of 32 bits is above 0xFFFFFFFF, the mark above 1, or the policy none of its codes.
- * All but the mark stay as the mount has set them.
+ * The words of a mount value. Words hold none where a number of 32 bits is above 0xFFFFFFFF, the mark or ZONEFS_MOUNT_EXPLICIT_OPEN above 1, or the
+ * policy none of its codes. All but the mark stay as the mount has set them.
  */
 enum {
   ZONEFS_MOUNT_BLOCK = 0,
@@ -224,7 +241,23 @@ enum {
   ZONEFS_MOUNT_POLICY = 6,        /* ZONEFS_REMOUNT_RO to ZONEFS_REPAIR */
   ZONEFS_MOUNT_UUID_LOW = 7,      /* bytes 0 to 7 of the uuid, the first lowest */
   ZONEFS_MOUNT_UUID_HIGH = 8,     /* bytes 8 to 15 */
-  ZONEFS_MOUNT_READ_ONLY = 9      /* 1 where the mount is read-only */
+  ZONEFS_MOUNT_READ_ONLY = 9,     /* 1 where the mount is read-only */
+  ZONEFS_MOUNT_EXPLICIT_OPEN = 10 /* 1 where the option explicit-open was given */
+};
+
+/*
+ * The words of an account, each a number of 32 bits. It counts seq files alone. A file is open while it has opens. It is active while it is healthy,
+ * has write access and a size below its capacity, and has a size other than 0 or, with the option explicit-open, is open. A mount leaves 0 open, and
+ * as many active as there are, also above the limit; what is called and completed from then on keeps both numbers true. The limits stay.
+ * Of words that came from elsewhere nothing is counted afresh: each function believes them, and changes them by what changes in the one file. But a
+ * number of open or of active files above that of all seq files is ZONEFS_IMPOSSIBLE to every function that reads it, before ZONEFS_NO_FILE; and so
+ * is, to one that names a seq file, with its row, 0 open files where that file is open, or 0 active ones where it is active.
+ */
+enum {
+  ZONEFS_ACCOUNT_OPEN = 0,
+  ZONEFS_ACCOUNT_ACTIVE = 1,
+  ZONEFS_ACCOUNT_OPEN_LIMIT = 2,  /* what zonefs_open may raise the first to, with explicit-open; 0 for no limit */
+  ZONEFS_ACCOUNT_ACTIVE_LIMIT = 3 /* what it may raise the second to, in the same way */
 };
 
 /*
@@ -281,85 +314,125 @@ uint64_t zonefs_super_fields(const uint8_t *superblock, size_t superblock_bytes,
                              uint8_t *uuid, size_t uuid_bytes, uint64_t *answer, size_t answer_words);
 
 /*
- * Mounts. Reads the block (512 or 4096), the disk's first 4,096 bytes (the super block), the option text and the zone report. The options
- * are up to 255 bytes without a final zero: errors=remount-ro, errors=zone-ro, errors=zone-offline or errors=repair; of several, split by
- * commas, the last counts, and of none errors=remount-ro. The report is one piece from the first zone on, and its length is exactly
- * ZONEFS_HEADER_BYTES + ZONEFS_ZONE_BYTES for each zone that its header counts.
- * Writes the rows of the files to the front of both tables, with nothing outstanding, and the mount words.
- * Returns 0, with two values, the numbers of cnv and of seq files; or 10 (mount or answer words too short), 20 to 30, 33; 29 with two values,
- * the lowest number of a bad zone and its reason. Refused by 20 to 30 or 33, the tables are as they were, and the mount words are all 0, with
- * which every call and every completion answers 10.
+ * Mounts. Reads the block (512 or 4096), the disk's first 4,096 bytes (the super block), the option text, the zone report and the limits. The
+ * options are up to 255 bytes without a final zero, pieces split by commas: errors=remount-ro, errors=zone-ro, errors=zone-offline or errors=repair, of
+ * which the last counts, and of none errors=remount-ro; and explicit-open, anywhere among them and as often as one likes. The report is one piece from
+ * the first zone on, and its length is exactly ZONEFS_HEADER_BYTES + ZONEFS_ZONE_BYTES for each zone that its header counts. The limits are how many seq
+ * files may be open, and how many active, by zonefs_open; 0 is no limit. Without explicit-open they are kept, and not looked at.
+ * Writes the rows of the files to the front of both tables, with nothing outstanding and no opens, the mount words, and the account words: 0 open, as
+ * many active as the report shows, and the limits.
+ * Returns 0, with two values, the numbers of cnv and of seq files; or 10 (mount, account or answer words too short), 20 to 30, 33; 29 with two
+ * values, the lowest number of a bad zone and its reason. Refused by 20 to 30 or 33, the tables are as they were, and the mount words and account
+ * words are all 0, with which every call and every completion answers 10.
  */
 uint64_t zonefs_mount(uint64_t block, const uint8_t *superblock, size_t superblock_bytes, const uint8_t *options,
-                      size_t options_bytes, const uint8_t *report, size_t report_bytes, uint64_t *cnv, size_t cnv_words,
-                      uint64_t *seq, size_t seq_words, uint64_t *mount, size_t mount_words, uint64_t *answer,
+                      size_t options_bytes, const uint8_t *report, size_t report_bytes, uint32_t open_limit,
+                      uint32_t active_limit, uint64_t *cnv, size_t cnv_words, uint64_t *seq, size_t seq_words,
+                      uint64_t *mount, size_t mount_words, uint64_t *account, size_t account_words, uint64_t *answer,
                       size_t answer_words);
 
 /*
- * Finds a name such as "seq/12", given without a final zero. Reads mount words and tables; writes the answer words only. Here and in showing it
- * does not matter what is outstanding.
+ * Finds a name such as "seq/12", given without a final zero. Reads mount words, account words and tables; writes the answer words only. Here and
+ * in showing it does not matter what is outstanding.
  * Returns 0, with two values, the kind and the number of the file; or 1, 10.
  */
-uint64_t zonefs_find(const uint64_t *mount, size_t mount_words, const uint64_t *cnv, size_t cnv_words, const uint64_t *seq,
-                     size_t seq_words, const uint8_t *name, size_t name_bytes, uint64_t *answer, size_t answer_words);
+uint64_t zonefs_find(const uint64_t *mount, size_t mount_words, const uint64_t *account, size_t account_words,
+                     const uint64_t *cnv, size_t cnv_words, const uint64_t *seq, size_t seq_words, const uint8_t *name,
+                     size_t name_bytes, uint64_t *answer, size_t answer_words);
 
 /*
- * Shows a file. Reads mount words and tables; writes the answer words only. Here as in the calls and completions, a kind above 1 is no file's.
+ * Shows a file. Reads mount words, account words and tables; writes the answer words only. Here as in the calls and completions, a kind above 1 is
+ * no file's. How often the file is open is in its row (ZONEFS_ROW_OPENS).
  * Returns 0, with six values, start in sectors, capacity, size, condition, access, and the mode shown; or 1, 10.
  */
-uint64_t zonefs_show(const uint64_t *mount, size_t mount_words, const uint64_t *cnv, size_t cnv_words, const uint64_t *seq,
-                     size_t seq_words, uint32_t kind, uint32_t number, uint64_t *answer, size_t answer_words);
+uint64_t zonefs_show(const uint64_t *mount, size_t mount_words, const uint64_t *account, size_t account_words,
+                     const uint64_t *cnv, size_t cnv_words, const uint64_t *seq, size_t seq_words, uint32_t kind,
+                     uint32_t number, uint64_t *answer, size_t answer_words);
 
 /*
- * The calls. Each reads mount words and tables, and writes the answer words and, where it gives a command, the words from ZONEFS_ROW_HELD on of
- * the named file's row.
+ * The calls. Each reads mount words, account words and tables, and writes the answer words and, where it gives a command, the words ZONEFS_ROW_HELD
+ * to ZONEFS_ROW_HELD_LENGTH of the named file's row.
  * Returns 0 with one value (ZONEFS_AT_ONCE), where it is answered at once: the count, always 0; or 0 with three values (ZONEFS_COMMANDED),
  * where a command is to be done: the command, its byte address and its byte length. The file then has this command outstanding, until
- * zonefs_complete or zonefs_fail of this file. Or returns 1 to 6, 10, with no value. Answered at once or refused, mount words and tables are as
- * they were.
+ * zonefs_complete or zonefs_fail of this file. Or returns 1 to 6, 10, with no value; a write also 13. Answered at once or refused, mount words, account
+ * words and tables are as they were. Only opening and closing, further down, write more than that; the four before them never change the account.
  * 2 is about the named file alone, whatever others have outstanding, and comes from any ZONEFS_ROW_HELD but 0, be it a command or not.
  * A read is cut at the file's size. A seq file is written at its size only, in whole blocks. A read, or a write to a cnv file, has no
  * alignment, and then neither has its command.
  */
-uint64_t zonefs_read(uint64_t *mount, size_t mount_words, uint64_t *cnv, size_t cnv_words, uint64_t *seq, size_t seq_words,
-                     uint32_t kind, uint32_t number, uint64_t offset, uint64_t length, uint64_t *answer,
-                     size_t answer_words);
+uint64_t zonefs_read(uint64_t *mount, size_t mount_words, uint64_t *account, size_t account_words, uint64_t *cnv,
+                     size_t cnv_words, uint64_t *seq, size_t seq_words, uint32_t kind, uint32_t number, uint64_t offset,
+                     uint64_t length, uint64_t *answer, size_t answer_words);
 
-uint64_t zonefs_write(uint64_t *mount, size_t mount_words, uint64_t *cnv, size_t cnv_words, uint64_t *seq,
-                      size_t seq_words, uint32_t kind, uint32_t number, uint64_t offset, uint64_t length, uint64_t *answer,
-                      size_t answer_words);
+/* With explicit-open, a write to a seq file that is not open answers 13, after 4 and before 5. */
+uint64_t zonefs_write(uint64_t *mount, size_t mount_words, uint64_t *account, size_t account_words, uint64_t *cnv,
+                      size_t cnv_words, uint64_t *seq, size_t seq_words, uint32_t kind, uint32_t number, uint64_t offset,
+                      uint64_t length, uint64_t *answer, size_t answer_words);
 
 /* Seq files only, to the size 0 (a reset) or to the capacity (a finish). */
-uint64_t zonefs_truncate(uint64_t *mount, size_t mount_words, uint64_t *cnv, size_t cnv_words, uint64_t *seq,
-                         size_t seq_words, uint32_t kind, uint32_t number, uint64_t size, uint64_t *answer,
-                         size_t answer_words);
+uint64_t zonefs_truncate(uint64_t *mount, size_t mount_words, uint64_t *account, size_t account_words, uint64_t *cnv,
+                         size_t cnv_words, uint64_t *seq, size_t seq_words, uint32_t kind, uint32_t number, uint64_t size,
+                         uint64_t *answer, size_t answer_words);
 
-uint64_t zonefs_flush(uint64_t *mount, size_t mount_words, uint64_t *cnv, size_t cnv_words, uint64_t *seq,
-                      size_t seq_words, uint32_t kind, uint32_t number, uint64_t *answer, size_t answer_words);
+uint64_t zonefs_flush(uint64_t *mount, size_t mount_words, uint64_t *account, size_t account_words, uint64_t *cnv,
+                      size_t cnv_words, uint64_t *seq, size_t seq_words, uint32_t kind, uint32_t number, uint64_t *answer,
+                      size_t answer_words);
 
 /*
- * The command that the file has outstanding was done, all of it. Reads mount words and tables, and writes the answer words and, where it returns
- * 0, the named file's row, in which nothing is outstanding any more.
- * Returns 0 with one value, the bytes read or written, else 0; or, in this order, 10 (mount words, or too few rows), 1, 8, 10 (the row; or what
- * it has outstanding is no command, or one that no call on such a row gives), with no value, and mount words and tables are as they were. The
- * read-only mark is not looked at: where another file's failure has set it since, the command ends as usual.
+ * Opens a file for writing. Of a seq file it also writes, where it returns 0, ZONEFS_ROW_OPENS, which is one more, and the account words: one more file
+ * is open where this one was not, and one more active where this one becomes so, which only an empty one does, with explicit-open.
+ * With explicit-open, the first open of a file that is not full gives ZONEFS_COMMAND_OPEN: the disk is to open the zone at the address. The file is
+ * open, and is counted, from this call on, not only when the disk is done. Every other open is answered at once, and so is every one without
+ * explicit-open; of a cnv file too, whose row stays as it was.
+ * Refused it returns, in this order, 10 (mount words, account words, or too few rows), 1, 10 (the row), 2, and of a seq file 3, 4 (no write access), 14
+ * (the file has ZONEFS_MOST_OPENS opens or more), 11, 12. The last two come with explicit-open alone, and only from an open that would raise the number
+ * of open files (11) or of active ones (12) above a limit that is not 0.
  */
-uint64_t zonefs_complete(uint64_t *mount, size_t mount_words, uint64_t *cnv, size_t cnv_words, uint64_t *seq,
-                         size_t seq_words, uint32_t kind, uint32_t number, uint64_t *answer, size_t answer_words);
+uint64_t zonefs_open(uint64_t *mount, size_t mount_words, uint64_t *account, size_t account_words, uint64_t *cnv,
+                     size_t cnv_words, uint64_t *seq, size_t seq_words, uint32_t kind, uint32_t number, uint64_t *answer,
+                     size_t answer_words);
+
+/*
+ * Closes a file again, one of its opens. Of a seq file it also writes, where it returns 0, ZONEFS_ROW_OPENS, which is one less, and the account words:
+ * with the last close one file less is open, and one less active where this one is empty and was active by being open.
+ * With explicit-open, the last close of a file that is neither empty nor full gives ZONEFS_COMMAND_CLOSE: the disk is to close the zone at the
+ * address. The file is no longer open from this call on, whatever becomes of the command. Every other close is answered at once, as opens are.
+ * Refused it returns, in this order, 10 (mount words, account words, or too few rows), 1, 10 (the row), 2, and of a seq file 13 (it is not open). 3
+ * and 4 are no matter here: a file can be closed on a read-only mount, and one without write access has no opens.
+ */
+uint64_t zonefs_close(uint64_t *mount, size_t mount_words, uint64_t *account, size_t account_words, uint64_t *cnv,
+                      size_t cnv_words, uint64_t *seq, size_t seq_words, uint32_t kind, uint32_t number, uint64_t *answer,
+                      size_t answer_words);
+
+/*
+ * The command that the file has outstanding was done, all of it. Reads mount words, account words and tables, and writes the answer words and, where
+ * it returns 0, the named file's row, in which nothing is outstanding any more, and ZONEFS_ACCOUNT_ACTIVE, where the file became active or is no longer.
+ * That looks at no limit. An open or a close that was done changes nothing but what is outstanding.
+ * Returns 0 with one value, the bytes read or written, else 0; or, in this order, 10 (mount words, account words, or too few rows), 1, 8, 10 (the row;
+ * or what it has outstanding is no command, or one that no call on such a row gives), with no value, and mount words, account words and tables are as
+ * they were. Of an open or a close that is asked of the row as it stood before that call, with one open less or one more. The read-only mark is not
+ * looked at, nor are the limits: where another file's failure has set the mark since, the command ends as usual.
+ */
+uint64_t zonefs_complete(uint64_t *mount, size_t mount_words, uint64_t *account, size_t account_words, uint64_t *cnv,
+                         size_t cnv_words, uint64_t *seq, size_t seq_words, uint32_t kind, uint32_t number,
+                         uint64_t *answer, size_t answer_words);
 
 /*
  * The command that the file has outstanding failed; a read or write of the disk that came out short counts as failed. The record is the 64 bytes
  * of the zone at the command's address, as it is after the failure: also in a cnv file of several zones it is the one in which the command
  * begins. capacity_given is 0 where the record states no capacity, and anything else where it does: the flags of the report that the record came
- * with. Reads mount words and tables, and writes the answer words and, where it returns 7, the named file's row, in which nothing is outstanding
- * any more, and ZONEFS_MOUNT_READ_ONLY. What other files have outstanding stays so, also where the whole mount becomes read-only.
+ * with. Reads mount words, account words and tables, and writes the answer words and, where it returns 7, the named file's row, in which nothing is
+ * outstanding any more, ZONEFS_MOUNT_READ_ONLY, and ZONEFS_ACCOUNT_OPEN and ZONEFS_ACCOUNT_ACTIVE, by what has become of this file. It has no opens any
+ * more where the failed command was an open, or where it lost write access. What other files have outstanding stays so, and so do their opens, also
+ * where the whole mount becomes read-only.
  * Returns 7 with one value, the file's size now; or, in the order of zonefs_complete, 10, 1, 8, 10, with no value, and then 9 with one value, the
- * reason: the record is not 64 bytes long, or does not fit the file. But for 7, mount words and tables are as they were, and the command stays
- * outstanding.
+ * reason: the record is not 64 bytes long, or does not fit the file. But for 7, mount words, account words and tables are as they were, and the command
+ * stays outstanding.
  */
-uint64_t zonefs_fail(uint64_t *mount, size_t mount_words, uint64_t *cnv, size_t cnv_words, uint64_t *seq, size_t seq_words,
-                     uint32_t kind, uint32_t number, const uint8_t *record, size_t record_bytes, uint32_t capacity_given,
-                     uint64_t *answer, size_t answer_words);
+uint64_t zonefs_fail(uint64_t *mount, size_t mount_words, uint64_t *account, size_t account_words, uint64_t *cnv,
+                     size_t cnv_words, uint64_t *seq, size_t seq_words, uint32_t kind, uint32_t number,
+                     const uint8_t *record, size_t record_bytes, uint32_t capacity_given, uint64_t *answer,
+                     size_t answer_words);
 
 /*
  * The checksum of bytes: reflected CRC-32, polynomial 0xEDB88320, start all ones, no final inversion. A super block's checksum is that of its

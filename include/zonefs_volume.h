@@ -2,14 +2,14 @@
  * zonefs_volume.h: the functions of zonefs.h over one struct, with answers that have named fields. Header only, C99 and C++11. The plain
  * functions do all the work, and zonefs.h says what each reads, writes and answers; nothing of an answer is lost here.
  *
- * A volume holds the mount words, and points to two tables that the caller lends. So the caller chooses the room: a few rows in firmware,
- * ZONEFS_MOST_FILES rows of each kind where any disk has to fit. Tables inside the struct would make every volume 131 kilobytes long.
+ * A volume holds the mount words and the account words, and points to two tables that the caller lends. So the caller chooses the room: a few rows
+ * in firmware, ZONEFS_MOST_FILES rows of each kind where any disk has to fit. Tables inside the struct would make every volume 147 kilobytes long.
  *
  *   static uint64_t cnv[ROWS * ZONEFS_ROW_WORDS], seq[ROWS * ZONEFS_ROW_WORDS];
  *   static struct zonefs_volume volume;
  *
  *   zonefs_volume_lend(&volume, cnv, ROWS * ZONEFS_ROW_WORDS, seq, ROWS * ZONEFS_ROW_WORDS);
- *   answer = zonefs_volume_mount(&volume, 4096, first_bytes, 4096, "errors=repair", report, report_bytes);
+ *   answer = zonefs_volume_mount(&volume, 4096, first_bytes, 4096, "errors=repair", report, report_bytes, 0, 0);
  *
  * Each file may have one command outstanding, any number of files at once; a completion names the file whose command has ended.
  *
@@ -30,8 +30,9 @@ extern "C" {
 #endif
 
 struct zonefs_volume {
-  uint64_t mount[ZONEFS_MOUNT_WORDS]; /* ZONEFS_MOUNT_BLOCK to ZONEFS_MOUNT_READ_ONLY, to be read by anyone */
-  uint64_t *cnv;                      /* rows of ZONEFS_ROW_START to ZONEFS_ROW_HELD_LENGTH, to be read by anyone */
+  uint64_t mount[ZONEFS_MOUNT_WORDS];     /* ZONEFS_MOUNT_BLOCK to ZONEFS_MOUNT_EXPLICIT_OPEN, to be read by anyone */
+  uint64_t account[ZONEFS_ACCOUNT_WORDS]; /* ZONEFS_ACCOUNT_OPEN to ZONEFS_ACCOUNT_ACTIVE_LIMIT, to be read by anyone */
+  uint64_t *cnv;                          /* rows of ZONEFS_ROW_START to ZONEFS_ROW_OPENS, to be read by anyone */
   size_t cnv_words;
   uint64_t *seq;
   size_t seq_words;
@@ -53,7 +54,7 @@ struct zonefs_volume_super {
 
 /* What kind of answer it is. */
 enum zonefs_volume_outcome {
-  ZONEFS_VOLUME_REFUSED = 0, /* the number says why; nothing changed, but for the mount words of a refused mount */
+  ZONEFS_VOLUME_REFUSED = 0, /* the number says why; nothing changed, but for the mount and account words of a refused mount */
   ZONEFS_VOLUME_FAILED = 1,  /* number 7: the disk failed the command, and that was digested */
   ZONEFS_VOLUME_DONE = 2,    /* the call is over: at once, or because its command was completed */
   ZONEFS_VOLUME_COMMAND = 3, /* the disk is to do a command, which is outstanding until zonefs_volume_complete or zonefs_volume_fail of its file */
@@ -73,7 +74,7 @@ struct zonefs_volume_answer {
   enum zonefs_volume_outcome outcome;
 
   uint64_t count;       /* DONE: the bytes read or written */
-  uint32_t command;     /* COMMAND: ZONEFS_COMMAND_READ to ZONEFS_COMMAND_FLUSH */
+  uint32_t command;     /* COMMAND: ZONEFS_COMMAND_READ to ZONEFS_COMMAND_CLOSE */
   uint64_t address;     /* COMMAND: in bytes from the start of the disk */
   uint64_t length;      /* COMMAND: in bytes, 0 but for reads and writes */
   uint32_t cnv_files;   /* MOUNTED */
@@ -104,7 +105,11 @@ static inline const char *zonefs_volume_refusal_text(uint64_t number) {
   case ZONEFS_FAILED: return "the disk failed it";
   case ZONEFS_NOTHING_OUTSTANDING: return "the file has nothing outstanding";
   case ZONEFS_BAD_RECORD: return "the zone record does not fit; the command stays outstanding";
-  case ZONEFS_IMPOSSIBLE: return "mount words or tables impossible or too short";
+  case ZONEFS_IMPOSSIBLE: return "mount words, account words or tables impossible or too short";
+  case ZONEFS_OPEN_LIMIT: return "as many files are open as may be";
+  case ZONEFS_ACTIVE_LIMIT: return "as many files are active as may be";
+  case ZONEFS_NOT_OPEN: return "the file is not open";
+  case ZONEFS_TOO_MANY_OPENS: return "the file has too many opens";
   case ZONEFS_BAD_BLOCK: return "block neither 512 nor 4096";
   case ZONEFS_SUPER_LENGTH: return "super block not 4096 bytes long";
   case ZONEFS_SUPER_MAGIC: return "super block with another magic number";
@@ -212,7 +217,7 @@ static inline struct zonefs_volume_answer zonefs_volume_answer_with_command(uint
 static inline struct zonefs_volume_answer zonefs_volume_answer_of_row(const uint64_t *row) {
   if (row[ZONEFS_ROW_HELD] == 0)
     return zonefs_volume_answer_bare(ZONEFS_NOTHING_OUTSTANDING);
-  if (row[ZONEFS_ROW_HELD] - 1 > ZONEFS_COMMAND_FLUSH)
+  if (row[ZONEFS_ROW_HELD] - 1 > ZONEFS_COMMAND_CLOSE)
     return zonefs_volume_answer_bare(ZONEFS_IMPOSSIBLE);
   return zonefs_volume_answer_with_command(row[ZONEFS_ROW_HELD] - 1, row[ZONEFS_ROW_HELD_ADDRESS], row[ZONEFS_ROW_HELD_LENGTH]);
 }
@@ -256,7 +261,7 @@ static inline size_t zonefs_volume_label_bytes(const char *label) {
  */
 #define ZONEFS_VOLUME_TABLE(table, words) ((table) != NULL ? (table) : volume->mount), ((table) != NULL ? (words) : 0)
 #define ZONEFS_VOLUME_TABLES ZONEFS_VOLUME_TABLE(volume->cnv, volume->cnv_words), ZONEFS_VOLUME_TABLE(volume->seq, volume->seq_words)
-#define ZONEFS_VOLUME_WORDS volume->mount, ZONEFS_MOUNT_WORDS
+#define ZONEFS_VOLUME_WORDS volume->mount, ZONEFS_MOUNT_WORDS, volume->account, ZONEFS_ACCOUNT_WORDS
 #define ZONEFS_VOLUME_LENT ZONEFS_VOLUME_WORDS, ZONEFS_VOLUME_TABLES
 
 /* ---- the functions */
@@ -308,21 +313,27 @@ static inline void zonefs_volume_lend(struct zonefs_volume *volume, uint64_t *cn
   size_t i;
   for (i = 0; i < ZONEFS_MOUNT_WORDS; i++)
     volume->mount[i] = 0;
+  for (i = 0; i < ZONEFS_ACCOUNT_WORDS; i++)
+    volume->account[i] = 0;
   volume->cnv = cnv;
   volume->cnv_words = cnv_words;
   volume->seq = seq;
   volume->seq_words = seq_words;
 }
 
-/* MOUNTED, or refused by 20 to 30 or 33, by 29 with zone and reason. The options are a C string, "" for none. */
+/*
+ * MOUNTED, or refused by 20 to 30 or 33, by 29 with zone and reason. The options are a C string, "" for none. The limits are how many seq files may be
+ * open and how many active under the option explicit-open, 0 for no limit.
+ */
 static inline struct zonefs_volume_answer zonefs_volume_mount(struct zonefs_volume *volume, uint64_t block,
                                                               const void *superblock, size_t superblock_bytes,
-                                                              const char *options, const void *report, size_t report_bytes) {
+                                                              const char *options, const void *report, size_t report_bytes,
+                                                              uint32_t open_limit, uint32_t active_limit) {
   uint64_t words[ZONEFS_ANSWER_WORDS] = {0};
   uint64_t number =
       zonefs_mount(block, (const uint8_t *)superblock, superblock_bytes, (const uint8_t *)options,
-                   zonefs_volume_text_bytes(options), (const uint8_t *)report, report_bytes, ZONEFS_VOLUME_TABLES,
-                   ZONEFS_VOLUME_WORDS, words, ZONEFS_ANSWER_WORDS);
+                   zonefs_volume_text_bytes(options), (const uint8_t *)report, report_bytes, open_limit, active_limit,
+                   ZONEFS_VOLUME_TABLES, ZONEFS_VOLUME_WORDS, words, ZONEFS_ANSWER_WORDS);
   return zonefs_volume_answer_of_mount(number, words);
 }
 
@@ -344,7 +355,7 @@ static inline struct zonefs_volume_answer zonefs_volume_show(const struct zonefs
 
 /*
  * What a file has outstanding, as its row has it: COMMAND, as the call gave it; or refused by 1, 10 as showing is, by 8 where the file has nothing
- * outstanding, by 10 where what its row holds is no command. So a program that kept mount words and tables need not keep the commands beside them.
+ * outstanding, by 10 where what its row holds is no command. So a program that kept a volume and its tables need not keep the commands beside them.
  */
 static inline struct zonefs_volume_answer zonefs_volume_outstanding(const struct zonefs_volume *volume, uint32_t kind,
                                                                     uint32_t number) {
@@ -354,7 +365,10 @@ static inline struct zonefs_volume_answer zonefs_volume_outstanding(const struct
   return zonefs_volume_answer_of_row((kind == ZONEFS_CNV ? volume->cnv : volume->seq) + (size_t)number * ZONEFS_ROW_WORDS);
 }
 
-/* The calls: DONE, COMMAND, or refused by 1 to 6, 10; by 2 where this file has a command outstanding, whatever others have. */
+/*
+ * The calls: DONE, COMMAND, or refused by 1 to 6, 10; by 2 where this file has a command outstanding, whatever others have. With explicit-open a write
+ * to a seq file is also refused by 13, where the file is not open.
+ */
 static inline struct zonefs_volume_answer zonefs_volume_read(struct zonefs_volume *volume, uint32_t kind, uint32_t number,
                                                              uint64_t offset, uint64_t length) {
   uint64_t words[ZONEFS_ANSWER_WORDS] = {0};
@@ -379,6 +393,23 @@ static inline struct zonefs_volume_answer zonefs_volume_truncate(struct zonefs_v
 static inline struct zonefs_volume_answer zonefs_volume_flush(struct zonefs_volume *volume, uint32_t kind, uint32_t number) {
   uint64_t words[ZONEFS_ANSWER_WORDS] = {0};
   uint64_t answered = zonefs_flush(ZONEFS_VOLUME_LENT, kind, number, words, ZONEFS_ANSWER_WORDS);
+  return zonefs_volume_answer_of_call(answered, words);
+}
+
+/*
+ * Opens a file for writing, and closes it again: DONE, COMMAND, or refused by 1, 2, 10, and of a seq file an open by 3, 4, 14, 11, 12 and a close by 13.
+ * Both count, and the file is open until it was closed as often. A COMMAND comes with explicit-open alone, with the first open of a file that is not
+ * full and the last close of one that is neither empty nor full; it is done, and completed or failed, as any other.
+ */
+static inline struct zonefs_volume_answer zonefs_volume_open(struct zonefs_volume *volume, uint32_t kind, uint32_t number) {
+  uint64_t words[ZONEFS_ANSWER_WORDS] = {0};
+  uint64_t answered = zonefs_open(ZONEFS_VOLUME_LENT, kind, number, words, ZONEFS_ANSWER_WORDS);
+  return zonefs_volume_answer_of_call(answered, words);
+}
+
+static inline struct zonefs_volume_answer zonefs_volume_close(struct zonefs_volume *volume, uint32_t kind, uint32_t number) {
+  uint64_t words[ZONEFS_ANSWER_WORDS] = {0};
+  uint64_t answered = zonefs_close(ZONEFS_VOLUME_LENT, kind, number, words, ZONEFS_ANSWER_WORDS);
   return zonefs_volume_answer_of_call(answered, words);
 }
 

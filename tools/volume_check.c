@@ -1,8 +1,8 @@
 /*
  * Compares the functions of zonefs_volume.h with the plain ones of zonefs.h, call by call, on a small volume: every number that the library
- * has, every reason of 29 and 9, each command, answers at once, several files busy at once, and rows that hold anything. Of each answer all fields
- * are compared, and all words, rows and bytes that both leave. Words of answers and rows are counted out here, not named, so that a
- * wrong name in the header shows. C99 and C++11. Ends with status 1 at the first difference.
+ * has, every reason of 29 and 9, each command, answers at once, several files busy at once, files that are opened and closed, and rows and accounts
+ * that hold anything. Of each answer all fields are compared, and all words, rows and bytes that both leave. Words of answers, rows and accounts are
+ * counted out here, not named, so that a wrong name in the header shows. C99 and C++11. Ends with status 1 at the first difference.
  */
 #include <stdio.h>
 #include <stdlib.h>
@@ -13,7 +13,7 @@
 #define BLOCK 4096u
 #define LENGTH 1024u  /* sectors of each zone */
 #define CAPACITY 768u /* sectors of each sequential zone */
-#define ROW 8u                /* words of a row */
+#define ROW 9u               /* words of a row */
 #define CNV_WORDS (2u * ROW) /* two files */
 #define SEQ_WORDS (3u * ROW) /* three files, so that the tables cannot be taken for one another */
 #define BYTES(sectors) ((uint64_t)(sectors) * 512u)
@@ -26,13 +26,16 @@
 #endif
 
 /* the same volume twice: as the plain functions have it, and as a struct */
-static uint64_t mount_words[10], cnv[CNV_WORDS], seq[SEQ_WORDS], words[7];
+static uint64_t mount_words[11], account[4], cnv[CNV_WORDS], seq[SEQ_WORDS], words[7];
 static uint64_t volume_cnv[CNV_WORDS], volume_seq[SEQ_WORDS];
 static size_t cnv_words, seq_words;
 static struct zonefs_volume volume;
 
+static uint64_t account_before[4];         /* what the last answer left of the account */
+static uint32_t open_limit, active_limit; /* what a mount is given; 0 is none */
+
 static uint8_t super_block[4096], report[16 + 6 * 64], record[65];
-static unsigned compared, seen[35], at_once, commands[5], zone_reasons[10], record_reasons[10], format_reasons[10];
+static unsigned compared, seen[35], at_once, commands[7], zone_reasons[10], record_reasons[10], format_reasons[10];
 
 /* a super block's values, and the block that both functions make of them */
 static struct zonefs_volume_super values;
@@ -92,7 +95,7 @@ static int same_words(const uint64_t *a, const uint64_t *b, size_t count) {
   return memcmp(a, b, count * sizeof(*a)) == 0;
 }
 
-enum function { MOUNT, FIND, SHOW, CALL, COMPLETION, FORMAT, FIELDS };
+enum function { MOUNT, FIND, SHOW, CALL, OPENING, COMPLETION, FORMAT, FIELDS };
 
 static void put_shown(struct zonefs_volume_answer *a) {
   a->outcome = ZONEFS_VOLUME_SHOWN;
@@ -142,6 +145,14 @@ static struct zonefs_volume_answer by_words(enum function f, uint64_t number) {
   return a;
 }
 
+/* what both left of the account; only a mount, an open, a close and a completion may change it, and but for a mount none that is refused */
+static void compare_accounts(const char *what, enum function f, uint64_t number) {
+  int may_change = f == MOUNT || ((f == OPENING || f == COMPLETION) && (number == 0 || number == 7));
+  need(same_words(account, volume.account, 4), what, "the account words");
+  need(may_change || same_words(account, account_before, 4), what, "the account should have stayed");
+  memcpy(account_before, account, sizeof(account));
+}
+
 /* both answers, and all that both left; and the number that is expected, so that the case is the one it is meant to be */
 static void compare(const char *what, enum function f, uint64_t number, struct zonefs_volume_answer got, uint64_t expected) {
   struct zonefs_volume_answer a = by_words(f, number);
@@ -155,19 +166,20 @@ static void compare(const char *what, enum function f, uint64_t number, struct z
   need(got.start == a.start && got.capacity == a.capacity, what, "start or capacity");
   need(got.condition == a.condition && got.access == a.access && got.mode == a.mode, what, "condition, access or mode");
   need(got.finish == a.finish, what, "finish");
-  need(same_words(mount_words, volume.mount, 10), what, "the mount words");
+  need(same_words(mount_words, volume.mount, 11), what, "the mount words");
   need(same_words(cnv, volume_cnv, CNV_WORDS) && same_words(seq, volume_seq, SEQ_WORDS), what, "the tables");
+  compare_accounts(what, f, number);
   compared++;
   seen[number]++;
   if (got.outcome == ZONEFS_VOLUME_COMMAND)
     commands[got.command]++;
-  if (got.outcome == ZONEFS_VOLUME_DONE && f == CALL)
+  if (got.outcome == ZONEFS_VOLUME_DONE && f != COMPLETION)
     at_once++;
 }
 
 /* ---- each function both ways */
 
-#define PLAIN mount_words, 10, cnv, cnv_words, seq, seq_words
+#define PLAIN mount_words, 11, account, 4, cnv, cnv_words, seq, seq_words
 
 static void lend(size_t cnv_room, size_t seq_room) {
   cnv_words = cnv_room;
@@ -177,9 +189,11 @@ static void lend(size_t cnv_room, size_t seq_room) {
 }
 
 static void mount_of(const char *what, uint64_t block, size_t super_bytes, const char *options, size_t bytes, uint64_t expected) {
-  uint64_t number = zonefs_mount(block, super_block, super_bytes, (const uint8_t *)options, strlen(options), report, bytes, cnv,
-                                 cnv_words, seq, seq_words, mount_words, 10, words, 7);
-  compare(what, MOUNT, number, zonefs_volume_mount(&volume, block, super_block, super_bytes, options, report, bytes), expected);
+  uint64_t number = zonefs_mount(block, super_block, super_bytes, (const uint8_t *)options, strlen(options), report, bytes,
+                                 open_limit, active_limit, cnv, cnv_words, seq, seq_words, mount_words, 11, account, 4, words, 7);
+  struct zonefs_volume_answer got =
+      zonefs_volume_mount(&volume, block, super_block, super_bytes, options, report, bytes, open_limit, active_limit);
+  compare(what, MOUNT, number, got, expected);
 }
 
 /* the mount of the bytes as they are made up now, which are then made anew */
@@ -217,6 +231,16 @@ static void truncate_of(uint32_t kind, uint32_t file, uint64_t size, uint64_t ex
 static void flush_of(uint32_t kind, uint32_t file, uint64_t expected) {
   uint64_t number = zonefs_flush(PLAIN, kind, file, words, 7);
   compare("flush", CALL, number, zonefs_volume_flush(&volume, kind, file), expected);
+}
+
+static void open_of(uint32_t kind, uint32_t file, uint64_t expected) {
+  uint64_t number = zonefs_open(PLAIN, kind, file, words, 7);
+  compare("open", OPENING, number, zonefs_volume_open(&volume, kind, file), expected);
+}
+
+static void close_of(uint32_t kind, uint32_t file, uint64_t expected) {
+  uint64_t number = zonefs_close(PLAIN, kind, file, words, 7);
+  compare("close", OPENING, number, zonefs_volume_close(&volume, kind, file), expected);
 }
 
 static void complete(uint32_t kind, uint32_t file, uint64_t expected) {
@@ -277,6 +301,8 @@ static void try_unmounted(void) {
   write_of(1, 0, 0, BLOCK, 10);
   truncate_of(1, 0, 0, 10);
   flush_of(1, 0, 10);
+  open_of(1, 0, 10);
+  close_of(0, 0, 10);
   complete(1, 0, 10);
   complete(2, 0, 10);
   fail(1, 0, 64, 1, 10);
@@ -301,6 +327,7 @@ static void try_refused_mounts(void) {
   sign();
   mount_as("tail", "", 26);
   mount_as("options", "errors=none", 27);
+  mount_as("option with a value", "explicit-open=1", 27);
   mount_of("report's length", BLOCK, 4096, "", sizeof(report) - 1, 28);
   lend(CNV_WORDS, SEQ_WORDS - 1);
   mount_as("too few rows", "", 30);
@@ -461,12 +488,12 @@ static void put_held(uint32_t kind, uint32_t file, uint64_t held, uint64_t addre
   put_word(kind, file, 7, length);
 }
 
-/* the last three words of a row, and what the struct makes of them: the codes of the five commands are 0 to 4, and a row has 1 more */
+/* what a row holds, and what the struct makes of it: the codes of the seven commands are 0 to 6, and a row has 1 more */
 static void need_held(const char *what, uint32_t kind, uint32_t file, uint64_t held, uint64_t address, uint64_t length) {
   const uint64_t *row = row_of(kind, file);
   struct zonefs_volume_answer a = zonefs_volume_outstanding(&volume, kind, file);
   need(row[5] == held && row[6] == address && row[7] == length, what, "the row holds something else than expected");
-  need(a.number == (held == 0 ? 8u : held > 5 ? 10u : 0u), what, "another number of what is outstanding than expected");
+  need(a.number == (held == 0 ? 8u : held > 7 ? 10u : 0u), what, "another number of what is outstanding than expected");
   need((a.outcome == ZONEFS_VOLUME_COMMAND) == (a.number == 0), what, "the outcome of what is outstanding");
   need(a.number != 0 || (a.command == held - 1 && a.address == address && a.length == length), what, "what is outstanding");
 }
@@ -597,12 +624,416 @@ static void try_impossible_rows(void) {
 
 static void try_held_words(void) {
   mount_as("mount", "errors=repair", 0);
-  try_no_command(6);
+  try_no_command(8);
   try_no_command(UINT64_MAX);
   try_misplaced_command();
   try_idle_words();
   try_impossible_rows();
 }
+
+/* ---- files that are opened and closed; of the seq files the first has a block, the other two are empty */
+
+static void mount_with(const char *options, uint32_t most_open, uint32_t most_active) {
+  open_limit = most_open;
+  active_limit = most_active;
+  mount_as("mount with limits", options, 0);
+  open_limit = 0;
+  active_limit = 0;
+  need(account[2] == most_open && account[3] == most_active, "mount with limits", "other limits than expected");
+}
+
+static void need_account(const char *what, uint64_t open, uint64_t active) {
+  need(account[0] == open, what, "another number of open files than expected");
+  need(account[1] == active, what, "another number of active files than expected");
+}
+
+/* a word of the account, in both volumes */
+static void put_account(unsigned at, uint64_t value) {
+  account[at] = value;
+  account_before[at] = value;
+  volume.account[at] = value;
+}
+
+/* answered 0 without a command: the row has nothing outstanding, and so many opens */
+static void need_opens(const char *what, uint32_t file, uint64_t opens) {
+  need(words[0] == 1 && words[1] == 0, what, "another answer at once than expected");
+  need_idle(what, 1, file);
+  need(row_of(1, file)[8] == opens, what, "another number of opens than expected");
+}
+
+/* answered with a zone open (6 in the row) or a zone close (7) of a file in zone 3 or behind it */
+static void need_commanded(const char *what, uint32_t file, uint64_t held, uint64_t opens) {
+  uint64_t address = BYTES((3 + file) * LENGTH);
+  need(words[0] == 3 && words[1] == held - 1 && words[2] == address && words[3] == 0, what, "another command than expected");
+  need_held(what, 1, file, held, address, 0);
+  need(row_of(1, file)[8] == opens, what, "another number of opens than expected");
+}
+
+/* a file is opened, or closed, by a command that the disk does */
+static void open_by_command(uint32_t file) {
+  open_of(1, file, 0);
+  need_commanded("open", file, 6, 1);
+  complete(1, file, 0);
+  need_opens("open done", file, 1);
+}
+
+static void close_by_command(uint32_t file) {
+  close_of(1, file, 0);
+  need_commanded("close", file, 7, 0);
+  complete(1, file, 0);
+  need_opens("close done", file, 0);
+}
+
+static void try_option(void) {
+  static const struct {
+    const char *options;
+    uint64_t policy, explicit_open;
+  } cases[] = {
+      {"", 0, 0},
+      {"errors=repair", 3, 0},
+      {"explicit-open", 0, 1},
+      {"errors=zone-ro,explicit-open", 1, 1},
+      {",explicit-open,,explicit-open,errors=repair,errors=zone-offline,", 2, 1},
+  };
+  size_t i;
+  for (i = 0; i < sizeof(cases) / sizeof(cases[0]); i++) {
+    mount_as(cases[i].options, cases[i].options, 0);
+    need(mount_words[6] == cases[i].policy, cases[i].options, "another policy than expected");
+    need(mount_words[10] == cases[i].explicit_open, cases[i].options, "the option otherwise than expected");
+    need_account(cases[i].options, 0, 1);
+  }
+  mount_as("option cut short", "explicit-ope", 27);
+  need_account("refused mount", 0, 0);
+  need(account[2] == 0 && account[3] == 0, "refused mount", "the limits should be 0");
+}
+
+/* without the option both only count: no limit, no command, and a write needs no open */
+static void try_counting(void) {
+  mount_with("errors=repair", 1, 1);
+  need_account("mount", 0, 1);
+  open_of(1, 0, 0);
+  need_opens("first open", 0, 1);
+  open_of(1, 1, 0);
+  need_account("two files open", 2, 1);
+  put_held(1, 1, 0, 5, 7);
+  open_of(1, 1, 0);
+  need_opens("second open, over idle words", 1, 2);
+  close_of(1, 1, 0);
+  close_of(1, 1, 0);
+  need_opens("closed", 1, 0);
+  need_account("one file open", 1, 1);
+  close_of(1, 1, 13);
+  write_of(1, 1, 0, BLOCK, 0);
+  need_account("write not done yet", 1, 1);
+  complete(1, 1, 0);
+  need_account("write done", 1, 2);
+  close_of(1, 0, 0);
+  need_opens("closed, with a block", 0, 0);
+  need_account("all closed", 0, 2);
+  open_of(1, 3, 1);
+  close_of(2, 0, 1);
+  open_of(0, 1, 0);
+  close_of(0, 1, 0);
+  close_of(0, 1, 0);
+  need(words[0] == 1 && row_of(0, 1)[8] == 0, "close of cnv", "it counts nothing");
+}
+
+/* with the option the first open and the last close are commands, and a write needs an open; 13 comes after 4 and before 5 */
+static void try_opening(void) {
+  mount_with("errors=repair,explicit-open", 0, 0);
+  write_of(1, 0, BLOCK, BLOCK, 13);
+  write_of(1, 0, 0, BYTES(LENGTH), 13);
+  write_of(0, 0, 0, BLOCK, 0);
+  open_of(0, 0, 2);
+  complete(0, 0, 0);
+  open_of(1, 0, 0);
+  need_commanded("first open", 0, 6, 1);
+  need_account("open not done yet", 1, 1);
+  open_of(1, 0, 2);
+  close_of(1, 0, 2);
+  write_of(1, 0, BLOCK, BLOCK, 2);
+  complete(1, 0, 0);
+  need_opens("open done", 0, 1);
+  open_of(1, 0, 0);
+  need_opens("second open", 0, 2);
+  need_account("opened twice", 1, 1);
+  write_of(1, 0, BLOCK, BLOCK, 0);
+  complete(1, 0, 0);
+  close_of(1, 0, 0);
+  need_opens("first close", 0, 1);
+  close_of(1, 0, 0);
+  need_commanded("last close", 0, 7, 0);
+  need_account("close not done yet", 0, 1);
+  close_of(1, 0, 2);
+  complete(1, 0, 0);
+  close_of(1, 0, 13);
+  write_of(1, 0, 2 * BLOCK, BLOCK, 13);
+}
+
+/* an empty file is active by being open; a full one is opened and closed without a command, and is not active */
+static void try_empty_and_full(void) {
+  mount_with("errors=repair,explicit-open", 0, 1);
+  put_account(3, 2);
+  open_by_command(1);
+  need_account("an empty file open", 1, 2);
+  close_of(1, 1, 0);
+  need_opens("an empty file closed", 1, 0);
+  need_account("an empty file closed", 0, 1);
+  truncate_of(1, 2, BYTES(CAPACITY), 0);
+  complete(1, 2, 0);
+  put_account(3, 1);
+  open_of(1, 2, 0);
+  need_opens("a full file open", 2, 1);
+  need_account("a full file open", 1, 1);
+  truncate_of(1, 2, 0, 0);
+  complete(1, 2, 0);
+  need_account("a full file reset, above the limit", 1, 2);
+  truncate_of(1, 2, BYTES(CAPACITY), 0);
+  complete(1, 2, 0);
+  close_of(1, 2, 0);
+  need_opens("a full file closed", 2, 0);
+  need_account("a full file closed", 0, 1);
+}
+
+/* only an open that raises a count is refused by its limit, 11 before 12; a mount may be above it already */
+static void try_limits(void) {
+  mount_with("explicit-open", 1, 1);
+  open_by_command(0);
+  open_of(1, 1, 11);
+  open_of(1, 0, 0);
+  close_of(1, 0, 0);
+  close_by_command(0);
+  open_of(1, 1, 12);
+  need_account("refused open", 0, 1);
+  put_account(3, 2);
+  open_by_command(1);
+  open_of(1, 0, 11);
+  make_zone(report + 16 + 4 * 64, 4, 2, 4, CAPACITY, 8);
+  mount_with("explicit-open", UINT32_MAX, 1);
+  need_account("mount above its limit", 0, 2);
+  open_of(1, 2, 12);
+  open_by_command(1);
+}
+
+static void try_most_opens(void) {
+  mount_with("explicit-open", 1, 1);
+  put_account(0, 1);
+  put_word(1, 0, 8, 65534);
+  open_of(1, 0, 0);
+  need_opens("the last open that there can be", 0, 65535);
+  open_of(1, 0, 14);
+  put_word(1, 0, 8, UINT64_MAX);
+  open_of(1, 0, 14);
+  close_of(1, 0, 0);
+  need_opens("more opens than there can be", 0, UINT64_MAX - 1);
+  need_account("as many opens as there can be", 1, 1);
+}
+
+/* a failed open leaves no opens; a failed close leaves the file closed, as it was from the call on */
+static void try_failed_opens(void) {
+  mount_with("errors=repair,explicit-open", 0, 0);
+  make_zone(record, 3, 2, 3, CAPACITY, 8);
+  open_of(1, 0, 0);
+  fail(1, 0, 64, 1, 7);
+  need(words[1] == BLOCK, "failed open", "another size than expected");
+  need_idle("failed open", 1, 0);
+  need(row_of(1, 0)[8] == 0, "failed open", "it should have no opens");
+  need_account("failed open", 0, 1);
+  open_by_command(0);
+  close_of(1, 0, 0);
+  fail(1, 0, 64, 1, 7);
+  need(row_of(1, 0)[8] == 0 && row_of(1, 0)[2] == BLOCK, "failed close", "another row than expected");
+  need_account("failed close", 0, 1);
+  open_of(1, 1, 0);
+  need_account("an empty file's open", 1, 2);
+  make_zone(record, 4, 2, 1, CAPACITY, 0);
+  fail(1, 1, 64, 1, 7);
+  need_account("an empty file's failed open", 0, 1);
+  close_of(1, 1, 13);
+}
+
+/* whatever takes write access takes the opens too, and what others have open stays */
+static void try_lost_access(void) {
+  mount_with("errors=zone-ro,explicit-open", 0, 0);
+  open_by_command(0);
+  open_of(1, 0, 0);
+  open_by_command(1);
+  need_account("two files open", 2, 2);
+  make_zone(record, 3, 2, 2, CAPACITY, 16);
+  flush_of(1, 0, 0);
+  fail(1, 0, 64, 1, 7);
+  need(row_of(1, 0)[4] == 1 && row_of(1, 0)[8] == 0, "lost access", "another row than expected");
+  need(row_of(1, 1)[8] == 1, "lost access", "the other file should be open");
+  need_account("lost access", 1, 1);
+  open_of(1, 0, 4);
+  close_of(1, 0, 13);
+  close_of(1, 1, 0);
+  make_zone(record, 4, 2, 15, CAPACITY, 0);
+  open_of(1, 1, 0);
+  fail(1, 1, 64, 1, 7);
+  need_account("offline", 0, 0);
+}
+
+/* a failure that makes the mount read-only leaves the opens: nothing is opened any more, but all can be closed */
+static void try_read_only_mount(void) {
+  mount_with("explicit-open", 0, 0);
+  open_by_command(0);
+  open_by_command(1);
+  make_zone(record, 3, 2, 2, CAPACITY, 8);
+  flush_of(1, 0, 0);
+  fail(1, 0, 64, 1, 7);
+  need(mount_words[9] == 1 && mount_words[10] == 1, "remount", "the mount should be read-only, and keep its option");
+  need_account("remount", 2, 2);
+  open_of(1, 0, 3);
+  open_of(1, 2, 3);
+  write_of(1, 2, 0, BLOCK, 3);
+  open_of(0, 0, 0);
+  close_by_command(0);
+  close_of(1, 1, 0);
+  close_of(1, 1, 13);
+  need_account("closed on a read-only mount", 0, 1);
+}
+
+/* every function answers 10, also of a file that there isn't */
+static void need_impossible(void) {
+  find("cnv/0", 10);
+  find("none", 10);
+  show(1, 3, 10);
+  read_of(7, 0, 0, 1, 10);
+  write_of(1, 0, BLOCK, BLOCK, 10);
+  truncate_of(1, 1, 0, 10);
+  flush_of(0, 0, 10);
+  open_of(1, 3, 10);
+  close_of(0, 0, 10);
+  complete(2, 0, 10);
+  fail(1, 3, 64, 1, 10);
+}
+
+/* what the named row is counted in, and is 0: seq/0 is active, and is open too once it has an open */
+static void need_uncounted(void) {
+  find("seq/0", 10);
+  show(1, 0, 10);
+  read_of(1, 0, 0, 1, 10);
+  open_of(1, 0, 10);
+  close_of(1, 0, 10);
+  complete(1, 0, 8);
+  show(1, 1, 0);
+  open_of(0, 0, 0);
+  open_of(1, 3, 1);
+}
+
+/* more files than there are, before 1; 0 of what the named row counts in, with the row */
+static void try_wrong_accounts(void) {
+  mount_with("errors=repair,explicit-open", 0, 0);
+  put_account(0, 4);
+  need_impossible();
+  put_account(0, 3);
+  show(1, 0, 0);
+  put_account(1, 4);
+  need_impossible();
+  put_account(1, 0);
+  need_uncounted();
+  put_account(1, 1);
+  put_account(0, 0);
+  put_word(1, 0, 8, 1);
+  need_uncounted();
+  put_account(0, 1);
+  close_of(1, 0, 0);
+  complete(1, 0, 0);
+  put_account(1, 3);
+  open_of(1, 1, 0); /* the number is believed, and comes out as one above the files */
+  need_account("a wrong account", 1, 4);
+  need_impossible();
+}
+
+/* an account word above 32 bits: nothing is written, not even the answer words; so is a mark of explicit-open above 1 */
+static void try_wide_accounts(void) {
+  unsigned i;
+  mount_with("errors=repair,explicit-open", 0, 0);
+  for (i = 0; i < 4; i++) {
+    uint64_t was = account[i];
+    put_account(i, (uint64_t)1 << 32);
+    memset(words, UNTOUCHED, sizeof(words));
+    need_impossible();
+    need(untouched(words, sizeof(words)), "wide account", "the answer words should be as they were");
+    put_account(i, was);
+  }
+  put_account(2, UINT32_MAX);
+  put_account(3, UINT32_MAX);
+  show(1, 0, 0);
+  mount_words[10] = 2;
+  volume.mount[10] = 2;
+  memset(words, UNTOUCHED, sizeof(words));
+  need_impossible();
+  need(untouched(words, sizeof(words)), "wide mark", "the answer words should be as they were");
+}
+
+/* opens in a row without write access, of either kind; those of a cnv row count nowhere */
+static void try_impossible_opens(void) {
+  mount_with("explicit-open", 0, 0);
+  put_account(0, 1);
+  put_word(1, 1, 8, 1);
+  put_account(1, 2);
+  show(1, 1, 0);
+  put_word(1, 1, 4, 1);
+  show(1, 1, 10);
+  close_of(1, 1, 10);
+  put_word(1, 1, 8, 0);
+  show(1, 1, 0);
+  put_word(0, 1, 8, UINT64_MAX);
+  open_of(0, 1, 0);
+  close_of(0, 1, 0);
+  need(row_of(0, 1)[8] == UINT64_MAX, "opens of cnv", "they should stay");
+  put_word(0, 1, 4, 1);
+  show(0, 1, 10);
+}
+
+/* what a row holds is an open or a close: one that a call gives on the row as it was before, with one open less or one more, else 10 */
+static void try_held_opens(void) {
+  mount_with("explicit-open", 0, 0);
+  put_account(0, 1);
+  put_held(1, 0, 6, BYTES(3 * LENGTH), 0);
+  complete(1, 0, 10);
+  put_word(1, 0, 8, 2);
+  complete(1, 0, 10);
+  put_word(1, 0, 8, 1);
+  need_held("held open", 1, 0, 6, BYTES(3 * LENGTH), 0);
+  complete(1, 0, 0);
+  need_opens("held open", 0, 1);
+  put_held(1, 0, 7, BYTES(3 * LENGTH), 0);
+  complete(1, 0, 10);
+  put_word(1, 0, 8, 0);
+  put_held(1, 0, 7, BYTES(3 * LENGTH), BLOCK);
+  complete(1, 0, 10);
+  put_held(1, 0, 7, BYTES(3 * LENGTH), 0);
+  need_held("held close", 1, 0, 7, BYTES(3 * LENGTH), 0);
+  complete(1, 0, 0);
+  put_held(1, 1, 7, BYTES(4 * LENGTH), 0); /* of an empty file no close is commanded */
+  complete(1, 1, 10);
+  mount_with("", 0, 0);
+  put_account(0, 1);
+  put_word(1, 0, 8, 1);
+  put_held(1, 0, 6, BYTES(3 * LENGTH), 0); /* nor is an open without the option */
+  complete(1, 0, 10);
+}
+
+static void try_opens(void) {
+  try_option();
+  try_counting();
+  try_opening();
+  try_empty_and_full();
+  try_limits();
+  try_most_opens();
+  try_failed_opens();
+  try_lost_access();
+  try_read_only_mount();
+  try_wrong_accounts();
+  try_wide_accounts();
+  try_impossible_opens();
+  try_held_opens();
+}
+
+/* ---- super blocks */
 
 /* values of which no two are the same, so that one in another's place shows */
 static void make_values(void) {
@@ -783,19 +1214,19 @@ static void try_refused_fields(void) {
   fields_as("tail to read", 26);
 }
 
-/* each number was seen and has a text of its own; 11 is none, and stands here for those that the library doesn't have */
+/* each number was seen and has a text of its own; 15 is none, and stands here for those that the library doesn't have */
 static void check_numbers(void) {
-  const char *none = zonefs_volume_refusal_text(11);
+  const char *none = zonefs_volume_refusal_text(15);
   unsigned i, j;
   for (i = 0; i < sizeof(seen) / sizeof(seen[0]); i++) {
     const char *text = zonefs_volume_refusal_text(i);
-    int known = i <= 10 || (i >= 20 && i <= 30) || i == 33 || i == 34;
+    int known = i <= 14 || (i >= 20 && i <= 30) || i == 33 || i == 34;
     need((seen[i] > 0) == known, "numbers", "one of them was not seen");
     need((strcmp(text, none) != 0) == known, "texts", "a number has none");
     for (j = 0; known && j < i; j++)
       need(strcmp(text, zonefs_volume_refusal_text(j)) != 0, "texts", "two numbers have the same");
   }
-  for (i = 0; i < 5; i++)
+  for (i = 0; i < 7; i++)
     need(commands[i] > 0, "commands", "one of them was not seen");
   need(at_once > 0, "at once", "was not seen");
 }
@@ -837,6 +1268,7 @@ int main(void) {
   try_held_commands();
   try_busy_files_on_remount();
   try_held_words();
+  try_opens();
   try_refused_formats();
   try_bad_first_zones();
   try_finishing();

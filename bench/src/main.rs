@@ -8,7 +8,7 @@ use reference::player::calls::{Call, Request};
 use reference::player::format::{format, FormatInput};
 use reference::player::mount::{mount, Input};
 use reference::player::types::{FileKind, Row, Volume, MAX_FILES};
-use zonefs::words::{self, ANSWER_WORDS, MOUNT_WORDS, ROW_WORDS};
+use zonefs::words::{self, ACCOUNT_WORDS, ANSWER_WORDS, MOUNT_WORDS, ROW_WORDS};
 
 /// Rounds; each measures all programs once, one after the other, and the median is what counts.
 const ROUNDS: usize = 15;
@@ -54,8 +54,8 @@ fn put(bytes: &mut [u8], at: usize, value: &[u8]) {
     bytes[at..at + value.len()].copy_from_slice(value);
 }
 
-/// A volume of 1,023 zones, the first half conventional, the others sequential and empty.
-fn input() -> Input {
+/// A volume of 1,023 zones, the first half conventional, the others sequential and empty, without a limit.
+fn input(options: &[u8]) -> Input {
     let mut super_block = vec![0; 4096];
     put(&mut super_block, 0, &0x5A4F_4653_u32.to_le_bytes());
     let sum = bytewise(&super_block);
@@ -71,12 +71,14 @@ fn input() -> Input {
         report[at + 24] = if conventional { 1 } else { 2 };
         report[at + 25] = if conventional { 0 } else { 1 };
     }
-    Input { block: BLOCK as u16, super_block, report, options: b"errors=repair".to_vec() }
+    let options = options.to_vec();
+    Input { block: BLOCK as u16, super_block, report, options, open_limit: 0, active_limit: 0 }
 }
 
 /// What the library is lent.
 struct Lent {
     mount: [u64; MOUNT_WORDS],
+    account: [u64; ACCOUNT_WORDS],
     cnv: Vec<u64>,
     seq: Vec<u64>,
     answer: [u64; ANSWER_WORDS],
@@ -84,49 +86,68 @@ struct Lent {
 
 impl Lent {
     fn new() -> Lent {
+        let (mount, account) = ([0; MOUNT_WORDS], [0; ACCOUNT_WORDS]);
         let table = || vec![0; MAX_FILES * ROW_WORDS];
-        Lent { mount: [0; MOUNT_WORDS], cnv: table(), seq: table(), answer: [0; ANSWER_WORDS] }
+        Lent { mount, account, cnv: table(), seq: table(), answer: [0; ANSWER_WORDS] }
     }
 
     fn mount(&mut self, input: &Input) -> u64 {
-        let Lent { mount, cnv, seq, answer } = self;
+        let Lent { mount, account, cnv, seq, answer } = self;
         words::mount(
             u64::from(input.block),
             &input.super_block,
             &input.options,
             &input.report,
+            input.open_limit,
+            input.active_limit,
             cnv,
             seq,
             mount,
+            account,
             answer,
         )
     }
 
     fn write(&mut self, file: u32, offset: u64) -> u64 {
-        let Lent { mount, cnv, seq, answer } = self;
-        words::write(mount, cnv, seq, SEQ, file, offset, BLOCK, answer)
+        let Lent { mount, account, cnv, seq, answer } = self;
+        words::write(mount, account, cnv, seq, SEQ, file, offset, BLOCK, answer)
     }
 
     fn complete(&mut self, file: u32) -> u64 {
-        let Lent { mount, cnv, seq, answer } = self;
-        words::complete(mount, cnv, seq, SEQ, file, answer)
+        let Lent { mount, account, cnv, seq, answer } = self;
+        words::complete(mount, account, cnv, seq, SEQ, file, answer)
     }
 
     fn append(&mut self, offset: u64) -> u64 {
         self.write(ONE_FILE, offset) + self.complete(ONE_FILE)
+    }
+
+    /// With its completion.
+    fn open(&mut self) -> u64 {
+        let Lent { mount, account, cnv, seq, answer } = self;
+        words::open(mount, account, cnv, seq, SEQ, ONE_FILE, answer) + self.complete(ONE_FILE)
+    }
+
+    /// With its completion.
+    fn close(&mut self) -> u64 {
+        let Lent { mount, account, cnv, seq, answer } = self;
+        words::close(mount, account, cnv, seq, SEQ, ONE_FILE, answer) + self.complete(ONE_FILE)
     }
 }
 
 fn volume(input: &Input) -> Volume {
     let mut cnv = vec![Row::EMPTY; MAX_FILES];
     let mut seq = vec![Row::EMPTY; MAX_FILES];
-    let mount = mount(input, &mut cnv, &mut seq).expect("a good volume");
-    Volume { mount, cnv, seq }
+    let (mount, account) = mount(input, &mut cnv, &mut seq).expect("a good volume");
+    Volume { mount, account, cnv, seq }
+}
+
+fn call(volume: &mut Volume, number: u32, request: Request) {
+    volume.call(&Call { kind: FileKind::Sequential, number, request }).expect("a call that is not refused");
 }
 
 fn write(volume: &mut Volume, number: u32, offset: u64) {
-    let request = Request::Write { offset, length: BLOCK };
-    volume.call(&Call { kind: FileKind::Sequential, number, request }).expect("an append");
+    call(volume, number, Request::Write { offset, length: BLOCK });
 }
 
 fn complete(volume: &mut Volume, number: u32) -> u64 {
@@ -135,6 +156,12 @@ fn complete(volume: &mut Volume, number: u32) -> u64 {
 
 fn append(volume: &mut Volume, offset: u64) -> u64 {
     write(volume, ONE_FILE, offset);
+    complete(volume, ONE_FILE)
+}
+
+/// An open or a close, with its completion.
+fn opening(volume: &mut Volume, request: Request) -> u64 {
+    call(volume, ONE_FILE, request);
     complete(volume, ONE_FILE)
 }
 
@@ -258,8 +285,8 @@ fn formats(input: &Input) {
     line("a super block made, beside the reference", times[0], times[1], "");
 }
 
-/// The time of a write with its completion, the library's and the reference's: of `passes` over the files, `writes` in each, from a table as the
-/// mount left it.
+/// The time of a write with its completion, the library's and the reference's: of `passes` over the files, `writes` in each, from a table and an
+/// account as the mount left them.
 fn appending(
     input: &Input,
     (passes, writes): (u64, u64),
@@ -268,14 +295,16 @@ fn appending(
 ) -> Vec<f64> {
     let mut lent = Lent::new();
     assert_eq!(lent.mount(input), 0);
-    let seq = lent.seq.clone();
+    let (account, seq) = (lent.account, lent.seq.clone());
     let fresh = volume(input);
     let mut held = fresh.clone();
     let mut ours = || {
+        lent.account = account;
         lent.seq.copy_from_slice(&seq);
         time(passes, |pass| library(&mut lent, pass * BLOCK))
     };
     let mut theirs = || {
+        held.account = fresh.account;
         held.seq.copy_from_slice(&fresh.seq);
         time(passes, |pass| reference(&mut held, pass * BLOCK))
     };
@@ -303,12 +332,34 @@ fn busy_appends(input: &Input) {
     line("the same on 500 files busy at once, beside the reference", times[0], times[1], "");
 }
 
+/// A file with one block is opened and closed, both by commands, with their completions; that is a turn.
+fn opens() {
+    const TURNS: u64 = 20_000;
+    let input = input(b"errors=repair,explicit-open");
+    let mut lent = Lent::new();
+    assert_eq!(lent.mount(&input) + lent.open() + lent.append(0) + lent.close(), 0);
+    let mut held = volume(&input);
+    opening(&mut held, Request::Open);
+    append(&mut held, 0);
+    opening(&mut held, Request::Close);
+    let mut library = || time(TURNS, |_| assert_eq!(black_box(lent.open() + lent.close()), 0));
+    let mut other = || {
+        time(TURNS, |_| {
+            let ended = opening(&mut held, Request::Open) + opening(&mut held, Request::Close);
+            assert_eq!(black_box(ended), 0);
+        })
+    };
+    let times = medians(TURNS, &mut [&mut library, &mut other]);
+    line("an open and a close with their completions, beside the reference", times[0], times[1], "");
+}
+
 fn main() {
     println!("{:<66} {:>13} {:>13}", "", "library", "other");
     let checksum = checksums();
-    let input = input();
+    let input = input(b"errors=repair");
     mounts(&input, checksum);
     formats(&input);
     appends(&input);
     busy_appends(&input);
+    opens();
 }

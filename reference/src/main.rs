@@ -19,7 +19,7 @@ usage:
   reference generate SEED DIR COUNT            writes COUNT tapes of SEED into DIR
   reference long SEED CALLS [PAD]              writes one tape with a long run of CALLS calls (0 to 1000000)
                                                to standard output, and what is on it to standard error; PAD
-                                               bytes (0 to 242, else 0) that mean nothing shift all that
+                                               bytes (0 to 228, else 0) that mean nothing shift all that
                                                follows the mount
   reference compare SEED COUNT PLAYER [KEEPDIR]
                                                compares PLAYER on COUNT tapes of SEED; a tape on which
@@ -32,7 +32,8 @@ usage:
 
 PLAYER is a program that takes a tape's file name as its only argument and prints the lines.
 Each file may have one command outstanding: on a tape OK and NO name their file, by a kind byte and a
-number of four bytes, as calls do, and both are printed behind the mark.
+number of four bytes, as calls do, and both are printed behind the mark. Behind the options of MO stand two
+limits of four bytes each, how many files may be open and how many active; 0 means none.
 Inputs for checksum are lines of hex digits, or with --binary a length (two bytes, little-endian)
 and as many bytes, over and over.
 The exit status is 0 if all went well, 1 if something failed, 2 for a wrong command line.
@@ -40,7 +41,7 @@ The exit status is 0 if all went well, 1 if something failed, 2 for a wrong comm
 
 /// A tape is made in memory.
 const MAX_CALLS: u64 = 1_000_000;
-const _: () = assert!(MAX_CALLS == 1_000_000 && MAX_PAD == 242, "the help states both");
+const _: () = assert!(MAX_CALLS == 1_000_000 && MAX_PAD == 228, "the help states both");
 
 enum Problem {
     Usage(String),

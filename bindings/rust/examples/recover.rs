@@ -1,5 +1,6 @@
 //! Mounts a volume, keeps two files busy at once, has an append fail halfway, recovers, and goes on, as examples/firmware.c does. Before that
-//! a report with a bad zone is refused, and says what is bad.
+//! a report with a bad zone is refused, and says what is bad. After it the disk is mounted again with `explicit-open`: files are opened before they are
+//! written and closed afterwards, and no more are open at once than the disk can take.
 //! The disk is played by this program. It prints each step, and ends with status 1 where a step answers otherwise than it should.
 
 use std::error::Error;
@@ -75,11 +76,16 @@ impl Disk {
     fn perform(&mut self, command: &Command) -> Result<(), [u8; words::ZONE_BYTES]> {
         let zone = command.address / SECTOR / ZONE_SECTORS;
         let pointer = &mut self.pointers[(zone - Disk::CONVENTIONAL) as usize];
-        if command.kind == CommandKind::Reset {
-            *pointer = zone * ZONE_SECTORS;
-            return Ok(());
+        match command.kind {
+            CommandKind::Write => {}
+            CommandKind::Reset => {
+                *pointer = zone * ZONE_SECTORS;
+                return Ok(());
+            }
+            // A zone that is opened or closed keeps its pointer.
+            CommandKind::Open | CommandKind::Close => return Ok(()),
+            other => panic!("this program asks for no {other:?}"),
         }
-        assert_eq!(command.kind, CommandKind::Write, "this program asks for nothing else");
         assert_eq!(command.address, *pointer * SECTOR, "a sequential zone is written at its pointer");
         let failure = self.fails_after.take();
         *pointer += failure.map_or(command.length, |blocks| blocks * BLOCK) / SECTOR;
@@ -93,11 +99,26 @@ fn put(bytes: &mut [u8], at: usize, value: &[u8]) {
 
 type Mounted = Volume<[zonefs::RowWords; 4]>;
 
-fn mount(disk: &Disk) -> Result<Mounted, Refusal> {
+/// The limits are how many files may be open and how many active; 0 is none.
+fn mount_with(
+    disk: &Disk,
+    options: &[u8],
+    (open_limit, active_limit): (u32, u32),
+) -> Result<Mounted, Refusal> {
     let (super_block, report) = (disk.super_block()?, disk.report());
-    let source =
-        Source { block: BLOCK, super_block: &super_block, options: b"errors=repair", report: &report };
+    let source = Source {
+        block: BLOCK,
+        super_block: &super_block,
+        options,
+        report: &report,
+        open_limit,
+        active_limit,
+    };
     Volume::mount(&source, [EMPTY_ROW; 4], [EMPTY_ROW; 4])
+}
+
+fn mount(disk: &Disk) -> Result<Mounted, Refusal> {
+    mount_with(disk, b"errors=repair", (0, 0))
 }
 
 /// The command that a call has led to. Here each call does.
@@ -116,13 +137,28 @@ fn end(volume: &mut Mounted, disk: &mut Disk, file: FileId, command: &Command) -
     }
 }
 
-/// Appends as a driver does that waits for the disk: asks, has the disk do the command, and says how that went.
-fn append(volume: &mut Mounted, disk: &mut Disk, file: FileId, length: u64) -> Result<u64, Refusal> {
-    let size = size_of(volume, file)?;
-    match volume.write(file, size, length)? {
+/// Carries a call through as a driver does that waits for the disk: has the disk do the command, if there is one, and says how that went.
+fn carry(volume: &mut Mounted, disk: &mut Disk, file: FileId, reply: Reply) -> Result<u64, Refusal> {
+    match reply {
         Reply::Done(count) => Ok(count),
         Reply::Command(command) => end(volume, disk, file, &command),
     }
+}
+
+fn append(volume: &mut Mounted, disk: &mut Disk, file: FileId, length: u64) -> Result<u64, Refusal> {
+    let size = size_of(volume, file)?;
+    let reply = volume.write(file, size, length)?;
+    carry(volume, disk, file, reply)
+}
+
+fn open(volume: &mut Mounted, disk: &mut Disk, file: FileId) -> Result<u64, Refusal> {
+    let reply = volume.open(file)?;
+    carry(volume, disk, file, reply)
+}
+
+fn close(volume: &mut Mounted, disk: &mut Disk, file: FileId) -> Result<u64, Refusal> {
+    let reply = volume.close(file)?;
+    carry(volume, disk, file, reply)
 }
 
 fn size_of(volume: &Mounted, file: FileId) -> Result<u64, Refusal> {
@@ -172,6 +208,38 @@ fn recover(volume: &mut Mounted, disk: &mut Disk, log: FileId) -> Result<(), Str
     step("size of seq/0", size_of(volume, log), Ok(20480))
 }
 
+/// Prints how many files the account has, and stops the program where there aren't as many.
+fn count(volume: &Mounted, open: u32, active: u32) -> Result<(), String> {
+    let account = volume.account().ok_or("a mount gives an account")?;
+    println!("{} open, {} active", account.open, account.active);
+    if (account.open, account.active) == (open, active) {
+        return Ok(());
+    }
+    Err(format!("expected {open} and {active}"))
+}
+
+/// Under `explicit-open` nothing is written to a file that isn't open, and here one file alone may be open. The first open of a file and its last
+/// close are commands for the disk; seq/1 is empty, so that it is active only while it is open, and its close is none.
+fn by_hand(disk: &mut Disk) -> Result<(), Box<dyn Error>> {
+    let mut volume = mount_with(disk, b"errors=repair,explicit-open", (1, 2))?;
+    let volume = &mut volume;
+    let (log, other) = (volume.find("seq/0")?, volume.find("seq/1")?);
+    count(volume, 0, 1)?;
+    let closed = append(volume, disk, log, 4096);
+    step("append 4096 to seq/0, which is not open", closed, Err(Refusal::NotOpen))?;
+    step("open seq/0", open(volume, disk, log), Ok(0))?;
+    step("open seq/1", open(volume, disk, other), Err(Refusal::OpenLimit))?;
+    step("append 4096 to seq/0", append(volume, disk, log, 4096), Ok(4096))?;
+    count(volume, 1, 1)?;
+    step("close seq/0", close(volume, disk, log), Ok(0))?;
+    step("open seq/1", open(volume, disk, other), Ok(0))?;
+    count(volume, 1, 2)?;
+    step("close seq/1", close(volume, disk, other), Ok(0))?;
+    step("close seq/1 once more", close(volume, disk, other), Err(Refusal::NotOpen))?;
+    count(volume, 0, 1)?;
+    Ok(())
+}
+
 fn main() -> Result<(), Box<dyn Error>> {
     refused_mount()?;
 
@@ -190,5 +258,8 @@ fn main() -> Result<(), Box<dyn Error>> {
     two_files(&mut volume, &mut disk, log, full)?;
     recover(&mut volume, &mut disk, log)?;
     println!("recovered");
+
+    by_hand(&mut disk)?;
+    println!("closed");
     Ok(())
 }

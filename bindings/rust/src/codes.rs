@@ -56,6 +56,10 @@ codes! {
         Finish = 3, COMMAND_FINISH;
         /// Flush.
         Flush = 4, COMMAND_FLUSH;
+        /// Open the zone at the address: its write pointer stays.
+        Open = 5, COMMAND_OPEN;
+        /// Close the zone at the address: its write pointer stays.
+        Close = 6, COMMAND_CLOSE;
     }
 
     /// The condition of a file's zones.

@@ -8,7 +8,7 @@
 //!
 //! ```
 //! use zonefs::words::FEATURE_PERM;
-//! use zonefs::{format, FileId, Format, Refusal, Reply, Source, Volume, EMPTY_ROW};
+//! use zonefs::{format, CommandKind, FileId, Format, Refusal, Reply, Source, Volume, EMPTY_ROW};
 //!
 //! # // A disk of two zones of 64 sectors: one conventional, one sequential and empty.
 //! # let mut report = [0; 16 + 2 * 64];
@@ -39,10 +39,22 @@
 //!
 //! // Each table has room for four files. The disk's first bytes, too, are read by the caller.
 //! let (mut cnv, mut seq) = ([EMPTY_ROW; 4], [EMPTY_ROW; 4]);
-//! let source = Source { block: 4096, super_block: &super_block, options: b"errors=repair", report: &report };
+//! let source = Source {
+//!     block: 4096,
+//!     super_block: &super_block,
+//!     options: b"errors=repair,explicit-open",
+//!     report: &report,
+//!     open_limit: 1,
+//!     active_limit: 0,
+//! };
 //! let mut volume = Volume::mount(&source, &mut cnv, &mut seq)?;
 //!
+//! // Under `explicit-open` a file is opened before it is written: a command for the disk, as the calls below. Here the disk does it.
 //! let log = volume.find("seq/0")?;
+//! let Reply::Command(command) = volume.open(log)? else { panic!("a zone is to be opened") };
+//! assert_eq!((command.kind, command.address), (CommandKind::Open, 64 * 512));
+//! volume.complete(log)?;
+//!
 //! let size = volume.show(log)?.size;
 //! let Reply::Command(command) = volume.write(log, size, 8192)? else { panic!("two blocks are to be written") };
 //! assert_eq!((command.address, command.length), (64 * 512, 8192));
@@ -54,6 +66,11 @@
 //! // The disk fails it halfway, and its record of the zone says that one block is there.
 //! assert_eq!(volume.fail(log, &record, false), Refusal::Failed { size: 4096 });
 //! assert_eq!(volume.show(FileId::seq(0))?.size, 4096);
+//!
+//! // The last close is a command again. The file counts as closed from here on, and is still active, as it is neither empty nor full.
+//! assert!(matches!(volume.close(log)?, Reply::Command(_)));
+//! let account = volume.account().expect("a mount gives an account");
+//! assert_eq!((account.open, account.active), (0, 1));
 //! # Ok::<(), Refusal>(())
 //! ```
 //!
@@ -83,6 +100,6 @@ pub use codes::{Access, CommandKind, Condition, FileKind, Policy};
 pub use format::{format, super_fields, Format, Formatted, SuperFields};
 pub use reason::Reason;
 pub use refusal::Refusal;
-pub use values::{Command, File, FileId, MountValue, Reply, Source};
+pub use values::{Account, Command, File, FileId, MountValue, Reply, Source};
 pub use volume::{RowWords, Volume, EMPTY_ROW};
 pub use words::checksum;

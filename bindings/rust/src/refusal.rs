@@ -78,7 +78,11 @@ refusals! {
         /// What is bad of the record.
         reason: Reason = Reason::from_code, ANSWER_RECORD_REASON;
     }, BAD_RECORD, "the zone record doesn't fit the file, so the command stays outstanding: {reason}";
-    10 Impossible, IMPOSSIBLE, "the mount value or a table is impossible";
+    10 Impossible, IMPOSSIBLE, "the mount value, the account or a table is impossible";
+    11 OpenLimit, OPEN_LIMIT, "as many files are open as may be";
+    12 ActiveLimit, ACTIVE_LIMIT, "as many files are active as may be";
+    13 NotOpen, NOT_OPEN, "the file is not open";
+    14 TooManyOpens, TOO_MANY_OPENS, "the file has as many opens as there can be";
     20 BadBlock, BAD_BLOCK, "the block is neither 512 nor 4096";
     21 SuperLength, SUPER_LENGTH, "the super block is not 4096 bytes long";
     22 SuperMagic, SUPER_MAGIC, "the super block has another magic number";

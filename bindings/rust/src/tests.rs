@@ -2,10 +2,10 @@
 
 use std::collections::BTreeMap;
 
-use crate::words::{ANSWER_WORDS, CONSTANTS, FUNCTIONS, MOUNT_WORDS};
+use crate::words::{ACCOUNT_WORDS, ANSWER_WORDS, CONSTANTS, FUNCTIONS, MOUNT_WORDS};
 use crate::{codes, reason, refusal};
 use crate::{format, super_fields, Format, Formatted, SuperFields};
-use crate::{Command, CommandKind, FileId, FileKind, MountValue, Policy, Reason, Refusal};
+use crate::{Account, Command, CommandKind, FileId, FileKind, MountValue, Policy, Reason, Refusal};
 
 /// The header without its comments.
 fn header() -> String {
@@ -34,7 +34,7 @@ fn constants_are_the_headers() {
     for (name, value) in &theirs {
         assert_eq!(ours.get(name.as_str()), Some(value), "ZONEFS_{name}");
     }
-    assert!(theirs.len() > 100, "only {} constants were found", theirs.len());
+    assert!(theirs.len() > 110, "only {} constants were found", theirs.len());
 }
 
 /// A type of the header as Rust writes it.
@@ -99,7 +99,7 @@ fn functions_are_the_headers() {
         })
         .collect();
     assert_eq!(ours, header_functions());
-    assert!(ours.len() >= 12, "only {} functions were found", ours.len());
+    assert!(ours.len() >= 14, "only {} functions were found", ours.len());
 }
 
 #[test]
@@ -107,7 +107,8 @@ fn refusals_have_the_papers_numbers_and_keep_their_values() {
     let answer = [2, 77, 6, 0, 0, 0, 0];
     let numbers: Vec<u64> =
         (0..=100).filter(|&number| Refusal::from_answer(number, &answer).is_some()).collect();
-    assert_eq!(numbers, [1, 2, 3, 4, 5, 6, 7, 8, 9, 10, 20, 21, 22, 23, 24, 25, 26, 27, 28, 29, 30, 33, 34]);
+    let expected: Vec<u64> = (1..=14).chain(20..=30).chain([33, 34]).collect();
+    assert_eq!(numbers, expected);
     for number in numbers {
         assert_eq!(Refusal::from_answer(number, &answer).map(Refusal::number), Some(number));
     }
@@ -124,6 +125,9 @@ fn refusals_have_the_papers_numbers_and_keep_their_values() {
         Refusal::from_answer(9, &[0; ANSWER_WORDS]),
         Some(Refusal::BadRecord { reason: Reason::NoRecord })
     );
+    let bare = |number: u64| Refusal::from_answer(number, &[0; ANSWER_WORDS]);
+    assert_eq!([bare(11), bare(12)], [Some(Refusal::OpenLimit), Some(Refusal::ActiveLimit)]);
+    assert_eq!([bare(13), bare(14)], [Some(Refusal::NotOpen), Some(Refusal::TooManyOpens)]);
     assert_eq!(Refusal::from_answer(30, &[0; ANSWER_WORDS]), Some(Refusal::TooFewRows));
     assert_eq!(Refusal::from_answer(33, &[0; ANSWER_WORDS]), Some(Refusal::SuperPerm));
     assert_eq!(Refusal::from_answer(34, &[0; ANSWER_WORDS]), Some(Refusal::LabelLength));
@@ -144,6 +148,8 @@ fn refusals_are_errors_with_a_text() {
     );
     assert_eq!(Refusal::Busy.to_string(), "2: the file has a command outstanding");
     assert_eq!(Refusal::NothingOutstanding.to_string(), "8: the file has nothing outstanding");
+    assert_eq!(Refusal::OpenLimit.to_string(), "11: as many files are open as may be");
+    assert_eq!(Refusal::NotOpen.to_string(), "13: the file is not open");
     assert_eq!(Refusal::LabelLength.to_string(), "34: the label is longer than 64 bytes");
 }
 
@@ -173,12 +179,12 @@ fn names_and_codes() {
 /// Words hold no mount value where one of them is out of its range.
 #[test]
 fn mount_values() {
-    let words = [4096, 2, 3, 4, 5, 0o640, 3, 0x0706_0504_0302_0100, 0x0F0E_0D0C_0B0A_0908, 1];
+    let words = [4096, 2, 3, 4, 5, 0o640, 3, 0x0706_0504_0302_0100, 0x0F0E_0D0C_0B0A_0908, 1, 0];
     let value = MountValue::from_words(&words).expect("a mount value");
     assert_eq!((value.cnv_files, value.seq_files, value.policy), (2, 3, Policy::Repair));
-    assert!(value.read_only);
+    assert!(value.read_only && !value.explicit_open);
     assert_eq!(value.uuid, [0, 1, 2, 3, 4, 5, 6, 7, 8, 9, 10, 11, 12, 13, 14, 15]);
-    let most = [u64::MAX, 1 << 32, 1 << 32, 1 << 32, 1 << 32, 1 << 32, 4, 0, 0, 2];
+    let most = [u64::MAX, 1 << 32, 1 << 32, 1 << 32, 1 << 32, 1 << 32, 4, 0, 0, 2, 2];
     for at in (1..MOUNT_WORDS).filter(|&at| most[at] != 0) {
         let mut wrong = words;
         wrong[at] = most[at];
@@ -188,18 +194,37 @@ fn mount_values() {
     }
 }
 
+#[test]
+fn accounts() {
+    let words = [1, 2, 3, u64::from(u32::MAX)];
+    let account = Account { open: 1, active: 2, open_limit: 3, active_limit: u32::MAX };
+    assert_eq!(Account::from_words(&words), Some(account));
+    for at in 0..ACCOUNT_WORDS {
+        let mut wide = words;
+        wide[at] = 1 << 32;
+        assert_eq!(Account::from_words(&wide), None, "word {at}");
+    }
+}
+
 /// Of a row that holds nothing the words after that don't count; one that holds no command is no idle one.
 #[test]
 fn rows_hold_a_command_or_nothing() {
-    let row = |held: u64| [64, 32768, 4096, 0, 2, held, 36864, 8192];
+    let row = |held: u64| [64, 32768, 4096, 0, 2, held, 36864, 8192, 1];
     assert_eq!(Command::of_row(&row(0)), Ok(None));
-    let kinds =
-        [CommandKind::Read, CommandKind::Write, CommandKind::Reset, CommandKind::Finish, CommandKind::Flush];
+    let kinds = [
+        CommandKind::Read,
+        CommandKind::Write,
+        CommandKind::Reset,
+        CommandKind::Finish,
+        CommandKind::Flush,
+        CommandKind::Open,
+        CommandKind::Close,
+    ];
     for (held, kind) in (1..).zip(kinds) {
         let command = Command { kind, address: 36864, length: 8192 };
         assert_eq!(Command::of_row(&row(held)), Ok(Some(command)));
     }
-    for held in [6, 7, 1 << 32, u64::MAX] {
+    for held in [8, 9, 1 << 32, u64::MAX] {
         assert_eq!(Command::of_row(&row(held)), Err(Refusal::Impossible));
     }
 }

@@ -4,7 +4,7 @@ use core::fmt;
 
 use crate::codes::{Access, CommandKind, Condition, FileKind, Policy};
 use crate::refusal::Refusal;
-use crate::words::{self, MOUNT_WORDS, ROW_WORDS};
+use crate::words::{self, ACCOUNT_WORDS, MOUNT_WORDS, ROW_WORDS};
 
 /// What a mount reads.
 #[derive(Clone, Copy, Debug)]
@@ -13,11 +13,15 @@ pub struct Source<'a> {
     pub block: u64,
     /// The first 4,096 bytes of the disk.
     pub super_block: &'a [u8],
-    /// The option text, such as `errors=repair`.
+    /// The option text, such as `errors=repair` or `errors=repair,explicit-open`.
     pub options: &'a [u8],
     /// The zone report: `struct blk_zone_report` with its zones, as BLKREPORTZONE of Linux gives it. The zones are handed over as they
     /// come: what stands in the pointer of a full one isn't looked at, and its file has its capacity.
     pub report: &'a [u8],
+    /// How many seq files may be open under `explicit-open`; 0 for no limit.
+    pub open_limit: u32,
+    /// How many seq files may be active under `explicit-open`, by opening one; 0 for no limit.
+    pub active_limit: u32,
 }
 
 /// A file: its kind, and its number among the files of that kind.
@@ -131,16 +135,18 @@ pub struct MountValue {
     pub uuid: [u8; 16],
     /// Whether the whole mount is read-only.
     pub read_only: bool,
+    /// Whether it has the option `explicit-open`: seq files are opened before they are written, and the limits count.
+    pub explicit_open: bool,
 }
 
 impl MountValue {
     /// Reads mount words; `None` where they hold no mount value.
     pub fn from_words(mount: &[u64; MOUNT_WORDS]) -> Option<MountValue> {
         let short = |at: usize| u32::try_from(mount[at]).ok();
-        let read_only = match mount[words::MOUNT_READ_ONLY] {
-            0 => false,
-            1 => true,
-            _ => return None,
+        let flag = |at: usize| match mount[at] {
+            0 => Some(false),
+            1 => Some(true),
+            _ => None,
         };
         let halves = [mount[words::MOUNT_UUID_LOW], mount[words::MOUNT_UUID_HIGH]];
         let mut uuid = [0; 16];
@@ -155,7 +161,37 @@ impl MountValue {
             mode: short(words::MOUNT_MODE)?,
             policy: Policy::from_code(mount[words::MOUNT_POLICY])?,
             uuid,
-            read_only,
+            read_only: flag(words::MOUNT_READ_ONLY)?,
+            explicit_open: flag(words::MOUNT_EXPLICIT_OPEN)?,
+        })
+    }
+}
+
+/// What the account words hold: how many seq files are open and how many are active, and how many may be under `explicit-open`.
+///
+/// A file is open while it has opens. It is active while it is healthy, can be written and isn't full, and either isn't empty or is open under
+/// `explicit-open`. A mount finds no file open, and as many active as there are, also above the limit.
+#[derive(Clone, Copy, Debug, PartialEq, Eq)]
+pub struct Account {
+    /// How many files are open.
+    pub open: u32,
+    /// How many files are active.
+    pub active: u32,
+    /// Opening a file raises the first no further than this; 0 for no limit.
+    pub open_limit: u32,
+    /// Opening a file raises the second no further than this; 0 for no limit.
+    pub active_limit: u32,
+}
+
+impl Account {
+    /// Reads account words; `None` where one of them is above 32 bits.
+    pub fn from_words(account: &[u64; ACCOUNT_WORDS]) -> Option<Account> {
+        let short = |at: usize| u32::try_from(account[at]).ok();
+        Some(Account {
+            open: short(words::ACCOUNT_OPEN)?,
+            active: short(words::ACCOUNT_ACTIVE)?,
+            open_limit: short(words::ACCOUNT_OPEN_LIMIT)?,
+            active_limit: short(words::ACCOUNT_ACTIVE_LIMIT)?,
         })
     }
 }

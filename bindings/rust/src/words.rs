@@ -2,8 +2,9 @@
 //!
 //! Nothing is demanded of what the slices hold, or of their lengths: each function answers for all of them. It returns
 //! 0 ([`OK`]) or the number of a [`Refusal`](crate::Refusal), and writes what it answers beside the number into `answer`: the number of
-//! values first, then the values, then zeros. Where mount words or answer words are too short, the mount words hold no mount
-//! value, or a uuid or the room for a label has another length than that has, the number is 10 and nothing is written.
+//! values first, then the values, then zeros. Where mount words, account words or answer words are too short, the mount words hold no
+//! mount value, an account word is above 32 bits, or a uuid or the room for a label has another length than that has, the number is 10 and
+//! nothing is written.
 //!
 //! [`Volume`](crate::Volume), [`format`](crate::format()) and [`super_fields`](crate::super_fields()) are the same functions with types; most
 //! programs want those. Codes in words are those of the enums [`FileKind`](crate::FileKind), [`CommandKind`](crate::CommandKind), [`Condition`](crate::Condition),
@@ -92,23 +93,27 @@ functions! {
         [answer: &mut [u64]],
     ) -> u64;
 
-    /// Mounts: fills the front of both tables with a row for each file, with nothing outstanding, and the mount words. Answers 0 with the numbers of
-    /// cnv and of seq files; or 10, 20 to 30, 33; 29 with the lowest number of a bad zone and its reason. Refused by 20 to 30 or 33, the
-    /// tables are as they were and the mount words are all 0.
+    /// Mounts: fills the front of both tables with a row for each file, with nothing outstanding and no opens, the mount words and the account words.
+    /// A limit of 0 is none. Answers 0 with the numbers of cnv and of seq files; or 10, 20 to 30, 33; 29 with the lowest number of a bad zone and its
+    /// reason. Refused by 20 to 30 or 33, the tables are as they were and mount words and account words are all 0.
     fn mount = zonefs_mount(
         block: u64,
         [superblock: &[u8]],
         [options: &[u8]],
         [report: &[u8]],
+        open_limit: u32,
+        active_limit: u32,
         [cnv: &mut [u64]],
         [seq: &mut [u64]],
         [mount: &mut [u64]],
+        [account: &mut [u64]],
         [answer: &mut [u64]],
     ) -> u64;
 
     /// Finds a name such as `seq/12`. Answers 0 with the kind and the number of the file; or 1, 10.
     fn find = zonefs_find(
         [mount: &[u64]],
+        [account: &[u64]],
         [cnv: &[u64]],
         [seq: &[u64]],
         [name: &[u8]],
@@ -118,6 +123,7 @@ functions! {
     /// Shows a file. Answers 0 with start in sectors, capacity, size, condition, access and the mode shown; or 1, 10.
     fn show = zonefs_show(
         [mount: &[u64]],
+        [account: &[u64]],
         [cnv: &[u64]],
         [seq: &[u64]],
         kind: u32,
@@ -127,9 +133,10 @@ functions! {
 
     /// Decides a read. Answers 0 with [`AT_ONCE`] value, the count, which is 0; or with [`COMMANDED`] values, the command
     /// that the disk has to do, its byte address and its byte length, which the file's row then holds as outstanding; or 1, 2, 4, 5, 10. But for
-    /// a command, mount words and tables are as they were. 2 is about this file alone, whatever others have outstanding.
+    /// a command, mount words, account words and tables are as they were. 2 is about this file alone, whatever others have outstanding.
     fn read = zonefs_read(
         [mount: &mut [u64]],
+        [account: &mut [u64]],
         [cnv: &mut [u64]],
         [seq: &mut [u64]],
         kind: u32,
@@ -139,9 +146,10 @@ functions! {
         [answer: &mut [u64]],
     ) -> u64;
 
-    /// Decides a write. Answers as [`read`] does, also 3 and 6.
+    /// Decides a write. Answers as [`read`] does, also 3, 6 and, where the mount has `explicit-open` and the seq file isn't open, 13.
     fn write = zonefs_write(
         [mount: &mut [u64]],
+        [account: &mut [u64]],
         [cnv: &mut [u64]],
         [seq: &mut [u64]],
         kind: u32,
@@ -154,6 +162,7 @@ functions! {
     /// Decides a truncation of a seq file, to the size 0 or to the capacity. Answers as [`read`] does, also 3, never 5.
     fn truncate = zonefs_truncate(
         [mount: &mut [u64]],
+        [account: &mut [u64]],
         [cnv: &mut [u64]],
         [seq: &mut [u64]],
         kind: u32,
@@ -165,6 +174,32 @@ functions! {
     /// Decides a flush. Answers 0 with [`COMMANDED`] values; or 1 to 4, 10.
     fn flush = zonefs_flush(
         [mount: &mut [u64]],
+        [account: &mut [u64]],
+        [cnv: &mut [u64]],
+        [seq: &mut [u64]],
+        kind: u32,
+        number: u32,
+        [answer: &mut [u64]],
+    ) -> u64;
+
+    /// Opens a file for writing, which a seq file's row counts; the account counts the file, once. Answers as [`read`] does: with a command where
+    /// the mount has `explicit-open` and this is the first open of a seq file that isn't full, else at once. Or, in this order, 10 (the counts), 1,
+    /// 10 (the row), 2, and of a seq file 3, 4, 14, 11, 12, the last two with `explicit-open` alone.
+    fn open = zonefs_open(
+        [mount: &mut [u64]],
+        [account: &mut [u64]],
+        [cnv: &mut [u64]],
+        [seq: &mut [u64]],
+        kind: u32,
+        number: u32,
+        [answer: &mut [u64]],
+    ) -> u64;
+
+    /// Closes a file again. Answers as [`read`] does: with a command where the mount has `explicit-open` and this is the last close of a seq file
+    /// that is neither empty nor full, else at once. Or, in this order, 10 (the counts), 1, 10 (the row), 2, and of a seq file that isn't open 13.
+    fn close = zonefs_close(
+        [mount: &mut [u64]],
+        [account: &mut [u64]],
         [cnv: &mut [u64]],
         [seq: &mut [u64]],
         kind: u32,
@@ -173,9 +208,10 @@ functions! {
     ) -> u64;
 
     /// The command that the file has outstanding was done. Answers 0 with the bytes read or written, else 0; or, in this order, 10 (the counts),
-    /// 1, 8, 10 (the row, or what it holds), and mount words and tables are as they were.
+    /// 1, 8, 10 (the row, or what it holds), and mount words, account words and tables are as they were.
     fn complete = zonefs_complete(
         [mount: &mut [u64]],
+        [account: &mut [u64]],
         [cnv: &mut [u64]],
         [seq: &mut [u64]],
         kind: u32,
@@ -185,9 +221,11 @@ functions! {
 
     /// The command that the file has outstanding failed. `record` is that of the zone at the command's address as it is now, and
     /// `capacity_given` is 0 where it states no capacity. Answers 7 with the file's size now; or what [`complete`] is refused by, in its order, and
-    /// then 9 with a reason. What other files have outstanding stays so.
+    /// then 9 with a reason. A failed open leaves the file no opens, and so does a failure that takes its write access. What other files have
+    /// outstanding stays so, and so do their opens.
     fn fail = zonefs_fail(
         [mount: &mut [u64]],
+        [account: &mut [u64]],
         [cnv: &mut [u64]],
         [seq: &mut [u64]],
         kind: u32,
@@ -216,14 +254,18 @@ constants! {
     OK: u64 = 0;
 
     /// The words of a mount value.
-    MOUNT_WORDS: usize = 10;
+    MOUNT_WORDS: usize = 11;
+    /// The words of an account.
+    ACCOUNT_WORDS: usize = 4;
     /// The words of a row.
-    ROW_WORDS: usize = 8;
+    ROW_WORDS: usize = 9;
     /// The words of an answer.
     ANSWER_WORDS: usize = 7;
 
     /// The most files of a kind: tables of this many rows are always long enough.
     MOST_FILES: usize = 1022;
+    /// The most opens of one file.
+    MOST_OPENS: u64 = 65535;
     /// The bytes of a super block.
     SUPER_BYTES: usize = 4096;
     /// The bytes of the label in a super block.
@@ -337,6 +379,8 @@ constants! {
     ROW_HELD_ADDRESS: usize = 6;
     /// A row: the outstanding command's byte length. A row is stored with 0 here where nothing is outstanding.
     ROW_HELD_LENGTH: usize = 7;
+    /// A row: how many opens the file has. A seq file is open while this isn't 0.
+    ROW_OPENS: usize = 8;
 
     /// A mount value: the block, 512 or 4096.
     MOUNT_BLOCK: usize = 0;
@@ -358,4 +402,15 @@ constants! {
     MOUNT_UUID_HIGH: usize = 8;
     /// A mount value: 1 where the mount is read-only.
     MOUNT_READ_ONLY: usize = 9;
+    /// A mount value: 1 where the option `explicit-open` was given.
+    MOUNT_EXPLICIT_OPEN: usize = 10;
+
+    /// An account: how many seq files are open. 32 bits, as the three after it.
+    ACCOUNT_OPEN: usize = 0;
+    /// An account: how many seq files are active.
+    ACCOUNT_ACTIVE: usize = 1;
+    /// An account: how many seq files may be open, 0 for no limit.
+    ACCOUNT_OPEN_LIMIT: usize = 2;
+    /// An account: how many seq files may be active, 0 for no limit.
+    ACCOUNT_ACTIVE_LIMIT: usize = 3;
 }

@@ -10,5 +10,5 @@ use Rattle.checks.specs.Facts.{Reached}
 
 -- 10 (counts), 1, 10 (row) and 2 are passed
 pub record Admitted (m : Mount) (cnv seq : List ℕ) (k : FileKind) (i : ℕ) (r : Row) : Type 0 where
-  pub reached : Reached (m .volume) cnv seq k i r
+  pub reached : Reached m cnv seq k i r
   pub idle : r .outstanding ≡ Idle

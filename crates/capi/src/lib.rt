@@ -1,27 +1,20 @@
-// The library for C: each function takes numbers and lent slices. A mount value lives in words that the caller keeps, and an answer is a
-// number, with its values in words that the caller lends. Any words whatever are taken: those that hold no mount value answer 10.
+// The library for C: each function takes numbers and lent slices. A mount value lives in words that the caller keeps, its account in words beside them, and
+// an answer is a number, with its values in words that the caller lends. Any words whatever are taken: those that hold no mount value answer 10.
 ghost use mathlib.Core.Path.{_≡_};
-ghost use mathlib.Core.Bool.{true, not};
-ghost use mathlib.Core.List.{List};
-ghost use Prim.Native.Nat.{ℕ, _≤_};
+ghost use mathlib.Core.Bool.{not};
 ghost use lib.Dec.{eqb};
-ghost use lib.ListN.{length};
 ghost use Rattle.types.specs.declared.Call.{Call};
-ghost use Rattle.mount_words.specs.Words.{mountLength};
-ghost use Rattle.answer_words.specs.Answers.{answerLength};
 ghost use Rattle.engine.specs.Engine.{Input};
 ghost use Rattle.step_words.specs.Words.{Completion, completionOf, stepWords};
-ghost use Rattle.capi.specs.Interface.{toldFound, findWords, toldShown, showWords, roomy, toldMounted, mountGiven};
+ghost use Rattle.mount_call_words.specs.Words.{mountGiven, findWords, showWords};
 ghost use Rattle.crc32.specs.Crc.{crc32};
 ghost use Rattle.format_words.specs.Words.{formatWords, fieldsWords};
 use types::Call;
-use types::FindAnswer;
-use types::MountOutcome;
-use types::ShowAnswer;
 
 #[no_mangle]
 pub extern "C" fn zonefs_read(
     w: &mut [u64],
+    account: &mut [u64],
     cnv: &mut [u64],
     seq: &mut [u64],
     kind: u32,
@@ -30,14 +23,24 @@ pub extern "C" fn zonefs_read(
     length: u64,
     a: &mut [u64],
 ) -> u64
-    ensures { λ r. ⌜ stepWords (now (w .entry)) (now (cnv .entry)) (now (seq .entry)) (Input.call kind number (Call.Read offset length)) (now (a .entry)) ≡ record { number = r; mount = now (w .exit); cnv = now (cnv .exit); seq = now (seq .exit); answer = now (a .exit) } ⌝ }
+    ensures { λ r. ⌜ stepWords (now (w .entry)) (now (account .entry)) (now (cnv .entry)) (now (seq .entry)) (Input.call kind number (Call.Read offset length)) (now (a .entry)) ≡ record { number = r; mount = now (w .exit); account = now (account .exit); cnv = now (cnv .exit); seq = now (seq .exit); answer = now (a .exit) } ⌝ }
 {
-    step_words::call(w, cnv, seq, kind, number, Call::Read(offset, length), a)
+    step_words::call(
+        w,
+        account,
+        cnv,
+        seq,
+        kind,
+        number,
+        Call::Read(offset, length),
+        a,
+    )
 }
 
 #[no_mangle]
 pub extern "C" fn zonefs_write(
     w: &mut [u64],
+    account: &mut [u64],
     cnv: &mut [u64],
     seq: &mut [u64],
     kind: u32,
@@ -46,14 +49,24 @@ pub extern "C" fn zonefs_write(
     length: u64,
     a: &mut [u64],
 ) -> u64
-    ensures { λ r. ⌜ stepWords (now (w .entry)) (now (cnv .entry)) (now (seq .entry)) (Input.call kind number (Call.Write offset length)) (now (a .entry)) ≡ record { number = r; mount = now (w .exit); cnv = now (cnv .exit); seq = now (seq .exit); answer = now (a .exit) } ⌝ }
+    ensures { λ r. ⌜ stepWords (now (w .entry)) (now (account .entry)) (now (cnv .entry)) (now (seq .entry)) (Input.call kind number (Call.Write offset length)) (now (a .entry)) ≡ record { number = r; mount = now (w .exit); account = now (account .exit); cnv = now (cnv .exit); seq = now (seq .exit); answer = now (a .exit) } ⌝ }
 {
-    step_words::call(w, cnv, seq, kind, number, Call::Write(offset, length), a)
+    step_words::call(
+        w,
+        account,
+        cnv,
+        seq,
+        kind,
+        number,
+        Call::Write(offset, length),
+        a,
+    )
 }
 
 #[no_mangle]
 pub extern "C" fn zonefs_truncate(
     w: &mut [u64],
+    account: &mut [u64],
     cnv: &mut [u64],
     seq: &mut [u64],
     kind: u32,
@@ -61,38 +74,80 @@ pub extern "C" fn zonefs_truncate(
     target: u64,
     a: &mut [u64],
 ) -> u64
-    ensures { λ r. ⌜ stepWords (now (w .entry)) (now (cnv .entry)) (now (seq .entry)) (Input.call kind number (Call.Truncate target)) (now (a .entry)) ≡ record { number = r; mount = now (w .exit); cnv = now (cnv .exit); seq = now (seq .exit); answer = now (a .exit) } ⌝ }
+    ensures { λ r. ⌜ stepWords (now (w .entry)) (now (account .entry)) (now (cnv .entry)) (now (seq .entry)) (Input.call kind number (Call.Truncate target)) (now (a .entry)) ≡ record { number = r; mount = now (w .exit); account = now (account .exit); cnv = now (cnv .exit); seq = now (seq .exit); answer = now (a .exit) } ⌝ }
 {
-    step_words::call(w, cnv, seq, kind, number, Call::Truncate(target), a)
+    step_words::call(
+        w,
+        account,
+        cnv,
+        seq,
+        kind,
+        number,
+        Call::Truncate(target),
+        a,
+    )
 }
 
 #[no_mangle]
 pub extern "C" fn zonefs_flush(
     w: &mut [u64],
+    account: &mut [u64],
     cnv: &mut [u64],
     seq: &mut [u64],
     kind: u32,
     number: u32,
     a: &mut [u64],
 ) -> u64
-    ensures { λ r. ⌜ stepWords (now (w .entry)) (now (cnv .entry)) (now (seq .entry)) (Input.call kind number Call.Flush) (now (a .entry)) ≡ record { number = r; mount = now (w .exit); cnv = now (cnv .exit); seq = now (seq .exit); answer = now (a .exit) } ⌝ }
+    ensures { λ r. ⌜ stepWords (now (w .entry)) (now (account .entry)) (now (cnv .entry)) (now (seq .entry)) (Input.call kind number Call.Flush) (now (a .entry)) ≡ record { number = r; mount = now (w .exit); account = now (account .exit); cnv = now (cnv .exit); seq = now (seq .exit); answer = now (a .exit) } ⌝ }
 {
-    step_words::call(w, cnv, seq, kind, number, Call::Flush, a)
+    step_words::call(w, account, cnv, seq, kind, number, Call::Flush, a)
+}
+
+// Opens for writing.
+#[no_mangle]
+pub extern "C" fn zonefs_open(
+    w: &mut [u64],
+    account: &mut [u64],
+    cnv: &mut [u64],
+    seq: &mut [u64],
+    kind: u32,
+    number: u32,
+    a: &mut [u64],
+) -> u64
+    ensures { λ r. ⌜ stepWords (now (w .entry)) (now (account .entry)) (now (cnv .entry)) (now (seq .entry)) (Input.call kind number Call.Open) (now (a .entry)) ≡ record { number = r; mount = now (w .exit); account = now (account .exit); cnv = now (cnv .exit); seq = now (seq .exit); answer = now (a .exit) } ⌝ }
+{
+    step_words::call(w, account, cnv, seq, kind, number, Call::Open, a)
+}
+
+#[no_mangle]
+pub extern "C" fn zonefs_close(
+    w: &mut [u64],
+    account: &mut [u64],
+    cnv: &mut [u64],
+    seq: &mut [u64],
+    kind: u32,
+    number: u32,
+    a: &mut [u64],
+) -> u64
+    ensures { λ r. ⌜ stepWords (now (w .entry)) (now (account .entry)) (now (cnv .entry)) (now (seq .entry)) (Input.call kind number Call.Close) (now (a .entry)) ≡ record { number = r; mount = now (w .exit); account = now (account .exit); cnv = now (cnv .exit); seq = now (seq .exit); answer = now (a .exit) } ⌝ }
+{
+    step_words::call(w, account, cnv, seq, kind, number, Call::Close, a)
 }
 
 // The command that a file has outstanding was done well.
 #[no_mangle]
 pub extern "C" fn zonefs_complete(
     w: &mut [u64],
+    account: &mut [u64],
     cnv: &mut [u64],
     seq: &mut [u64],
     kind: u32,
     number: u32,
     a: &mut [u64],
 ) -> u64
-    ensures { λ r. ⌜ stepWords (now (w .entry)) (now (cnv .entry)) (now (seq .entry)) (Input.completion kind number Completion.good) (now (a .entry)) ≡ record { number = r; mount = now (w .exit); cnv = now (cnv .exit); seq = now (seq .exit); answer = now (a .exit) } ⌝ }
+    ensures { λ r. ⌜ stepWords (now (w .entry)) (now (account .entry)) (now (cnv .entry)) (now (seq .entry)) (Input.completion kind number Completion.good) (now (a .entry)) ≡ record { number = r; mount = now (w .exit); account = now (account .exit); cnv = now (cnv .exit); seq = now (seq .exit); answer = now (a .exit) } ⌝ }
 {
-    step_words::end_command(w, cnv, seq, kind, number, true, b"", false, a)
+    step_words::end_command(w, account, cnv, seq, kind, number, true, b"", false, a)
 }
 
 // The command that a file has outstanding failed. The bytes are its zone's record, and `given` (any number but 0) says that the record states
@@ -100,6 +155,7 @@ pub extern "C" fn zonefs_complete(
 #[no_mangle]
 pub extern "C" fn zonefs_fail(
     w: &mut [u64],
+    account: &mut [u64],
     cnv: &mut [u64],
     seq: &mut [u64],
     kind: u32,
@@ -108,105 +164,83 @@ pub extern "C" fn zonefs_fail(
     given: u32,
     a: &mut [u64],
 ) -> u64
-    ensures { λ r. ⌜ stepWords (now (w .entry)) (now (cnv .entry)) (now (seq .entry)) (Input.completion kind number (completionOf (not (eqb given 0)) (now (bytes .entry)))) (now (a .entry)) ≡ record { number = r; mount = now (w .exit); cnv = now (cnv .exit); seq = now (seq .exit); answer = now (a .exit) } ⌝ }
+    ensures { λ r. ⌜ stepWords (now (w .entry)) (now (account .entry)) (now (cnv .entry)) (now (seq .entry)) (Input.completion kind number (completionOf (not (eqb given 0)) (now (bytes .entry)))) (now (a .entry)) ≡ record { number = r; mount = now (w .exit); account = now (account .exit); cnv = now (cnv .exit); seq = now (seq .exit); answer = now (a .exit) } ⌝ }
 {
-    step_words::end_command(w, cnv, seq, kind, number, false, bytes, given != 0, a)
+    step_words::end_command(
+        w,
+        account,
+        cnv,
+        seq,
+        kind,
+        number,
+        false,
+        bytes,
+        given != 0,
+        a,
+    )
 }
 
-// The words of a mount value and those of an answer are long enough.
-fn is_roomy(w: usize, a: usize) -> bool
-    ensures { λ r. ⌜ r ≡ roomy w a ⌝ }
-    ensures { λ r. ⌜ (r ≡ true → (mountLength ≤ w) × (answerLength ≤ a)) ⌝ }
-{
-    (mount_words::MOUNT_WORDS <= w) & (answer_words::ANSWER_WORDS <= a)
-}
-
-fn tell_mounted(w: &mut [u64], a: &mut [u64], o: MountOutcome) -> u64
-    requires { ⌜ (mountLength ≤ length (now w)) × (answerLength ≤ length (now a)) ⌝ }
-    ensures { λ r. ⌜ ((cnv seq : List ℕ) → toldMounted (now (w .entry)) (now (a .entry)) (record { answer = o .answer; mount = o .mount; cnv = cnv; seq = seq }) ≡ record { number = r; mount = now (w .exit); cnv = cnv; seq = seq; answer = now (a .exit) }) ⌝ }
-{
-    let m = o.mount;
-    let x = o.answer;
-    mount_words::put_mount(w, m);
-    answer_words::put_values(a, answer_words::mount_values(x));
-    types::answers::mount_number(x)
-}
-
-// Mounts: fills both tables and the mount's words.
+// Mounts: fills both tables and the words of the mount and of its account. A limit of 0 is none.
 #[no_mangle]
 pub extern "C" fn zonefs_mount(
     block: u64,
     superblock: &[u8],
     options: &[u8],
     report: &[u8],
+    open_limit: u32,
+    active_limit: u32,
     cnv: &mut [u64],
     seq: &mut [u64],
     w: &mut [u64],
+    account: &mut [u64],
     a: &mut [u64],
 ) -> u64
-    ensures { λ r. ⌜ mountGiven block (now (superblock .entry)) (now (options .entry)) (now (report .entry)) (now (cnv .entry)) (now (seq .entry)) (now (w .entry)) (now (a .entry)) ≡ record { number = r; mount = now (w .exit); cnv = now (cnv .exit); seq = now (seq .exit); answer = now (a .exit) } ⌝ }
+    ensures { λ r. ⌜ mountGiven block (now (superblock .entry)) (now (options .entry)) (now (report .entry)) «open_limit» «active_limit» (now (cnv .entry)) (now (seq .entry)) (now (w .entry)) (now (account .entry)) (now (a .entry)) ≡ record { number = r; mount = now (w .exit); account = now (account .exit); cnv = now (cnv .exit); seq = now (seq .exit); answer = now (a .exit) } ⌝ }
 {
-    if !is_roomy(w.len(), a.len()) {
-        return step_words::IMPOSSIBLE;
-    }
-    tell_mounted(
+    mount_call_words::mount(
+        block,
+        superblock,
+        options,
+        report,
+        open_limit,
+        active_limit,
+        cnv,
+        seq,
         w,
+        account,
         a,
-        mount::mount(block, superblock, options, report, cnv, seq),
     )
-}
-
-fn tell_found(a: &mut [u64], x: FindAnswer) -> u64
-    requires { ⌜ answerLength ≤ length (now a) ⌝ }
-    ensures { λ r. ⌜ toldFound (now (a .entry)) x ≡ record { number = r; answer = now (a .exit) } ⌝ }
-{
-    answer_words::put_values(a, answer_words::find_values(x));
-    types::answers::find_number(x)
 }
 
 // The file of a name.
 #[no_mangle]
 pub extern "C" fn zonefs_find(
     w: &[u64],
+    account: &[u64],
     cnv: &[u64],
     seq: &[u64],
     name: &[u8],
     a: &mut [u64],
 ) -> u64
-    ensures { λ r. ⌜ findWords (now (w .entry)) (now (cnv .entry)) (now (seq .entry)) (now (name .entry)) (now (a .entry)) ≡ record { number = r; answer = now (a .exit) } ⌝ }
+    ensures { λ r. ⌜ findWords (now (w .entry)) (now (account .entry)) (now (cnv .entry)) (now (seq .entry)) (now (name .entry)) (now (a .entry)) ≡ record { number = r; answer = now (a .exit) } ⌝ }
 {
-    if !step_words::is_usable(w, a.len()) {
-        return step_words::IMPOSSIBLE;
-    }
-    let m = mount_words::mount_from(w);
-    tell_found(a, inspect::find(m, cnv, seq, name))
-}
-
-fn tell_shown(a: &mut [u64], x: ShowAnswer) -> u64
-    requires { ⌜ answerLength ≤ length (now a) ⌝ }
-    ensures { λ r. ⌜ toldShown (now (a .entry)) x ≡ record { number = r; answer = now (a .exit) } ⌝ }
-{
-    answer_words::put_values(a, answer_words::show_values(x));
-    types::answers::show_number(x)
+    mount_call_words::find(w, account, cnv, seq, name, a)
 }
 
 // A file's row, and the mode that it is shown with.
 #[no_mangle]
 pub extern "C" fn zonefs_show(
     w: &[u64],
+    account: &[u64],
     cnv: &[u64],
     seq: &[u64],
     kind: u32,
     number: u32,
     a: &mut [u64],
 ) -> u64
-    ensures { λ r. ⌜ showWords (now (w .entry)) (now (cnv .entry)) (now (seq .entry)) kind number (now (a .entry)) ≡ record { number = r; answer = now (a .exit) } ⌝ }
+    ensures { λ r. ⌜ showWords (now (w .entry)) (now (account .entry)) (now (cnv .entry)) (now (seq .entry)) kind number (now (a .entry)) ≡ record { number = r; answer = now (a .exit) } ⌝ }
 {
-    if !step_words::is_usable(w, a.len()) {
-        return step_words::IMPOSSIBLE;
-    }
-    let m = mount_words::mount_from(w);
-    tell_shown(a, inspect::show_by(m, cnv, seq, kind as u64, number))
+    mount_call_words::show(w, account, cnv, seq, kind, number, a)
 }
 
 // Writes a super block into lent bytes, and says whether zone 0 must first be finished. `given` (any number but 0) says that the record of zone 0

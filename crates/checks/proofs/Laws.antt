@@ -9,6 +9,7 @@ use lib.ListN.{length}
 use lib.Dec.{leb, ltb, eqb}
 use borrow.Author.Tests.{leb-true, ltb-true, ltb-false, eqb-true, le-leb, lt-ltb, eq-eqb}
 use Rattle.types.specs.declared.Volume.{Volume}
+use Rattle.types.specs.declared.Mount.{Mount}
 use Rattle.types.specs.declared.Row.{Row}
 use Rattle.types.specs.declared.FileKind.{FileKind}
 use Rattle.types.specs.declared.FileKind.the-variants.{Conventional, Sequential}
@@ -22,40 +23,55 @@ use Rattle.types.specs.Kinds.{ofKind, filesOf}
 use Rattle.types.specs.Predicates.{means, isConventional, isReadOnly, isOffline, isNone, isWrite}
 use Rattle.types.proofs.Tests.{both, and-left, and-right, means-in, means-out}
 use Rattle.types.proofs.PredicateLaws.{none-is, some-is, conventional-is}
+use Rattle.account.specs.Account.{isOpen, accountFits, counted}
+use Rattle.account.specs.Facts.{Room}
+use Rattle.account.proofs.Laws.{fits-room}
 use Rattle.table.specs.declared.Slot.{Slot}
 use Rattle.table.specs.declared.Slot.the-variants as slot
 use Rattle.table.specs.Rows.{rowsLent, rowAt}
 use Rattle.checks.specs.declared.Lookup.{Lookup}
 use Rattle.checks.specs.declared.Lookup.the-variants as lookup
 use Rattle.checks.specs.declared.Checked.the-variants as checked
-use Rattle.checks.specs.Checks.{filesFit, countsFit, rowIn, lookupOf, allowed, full, soundRow, soundSlot, foundRow, fileOf}
-use Rattle.checks.specs.Facts.{SoundRow, Reached}
+use Rattle.checks.specs.Checks.{filesFit, countsFit, rowIn, lookupOf, allowed, full, openable, soundRow, soundSlot, foundRow, fileOf}
+use Rattle.checks.specs.Facts.{SoundRow, Reached, ruledSlot, countedFile}
 
 -- 10 (COUNTS)
 
-module _ (v : Volume) (c s : ℕ) (h : countsFit v c s ≡ true) where
-  pub counts-good : goodBlock (v .block) ≡ true
+module _ (m : Mount) (c s : ℕ) (h : countsFit m c s ≡ true) where
+  abbrev files : Bool
+  files = filesFit (m .volume .conventional) c && filesFit (m .volume .sequential) s
+
+  counts-rest : files && goodBlock (m .volume .block) ≡ true
   unfolding countsFit
-  counts-good = and-right (filesFit (v .conventional) c && filesFit (v .sequential) s) _ h
+  counts-rest = and-left _ (accountFits (m .volume) (m .account)) h
 
-  counts-files : (k : FileKind) → filesFit (filesOf k v) (ofKind k c s) ≡ true
+  pub counts-good : goodBlock (m .volume .block) ≡ true
+  counts-good = and-right files _ counts-rest
+
+  pub counts-account : accountFits (m .volume) (m .account) ≡ true
   unfolding countsFit
-  counts-files Conventional = and-left _ (filesFit (v .sequential) s) (and-left _ (goodBlock (v .block)) h)
-  counts-files Sequential = and-right (filesFit (v .conventional) c) _ (and-left _ (goodBlock (v .block)) h)
+  counts-account = and-right (files && goodBlock (m .volume .block)) _ h
 
-  pub counts-lent : (k : FileKind) → filesOf k v ≤ rowsLent (ofKind k c s)
-  counts-lent k = leb-true (filesOf k v) (rowsLent (ofKind k c s)) (and-left _ (leb (filesOf k v) mostFiles) (counts-files k))
+  counts-files : (k : FileKind) → filesFit (filesOf k (m .volume)) (ofKind k c s) ≡ true
+  counts-files Conventional = and-left _ (filesFit (m .volume .sequential) s) (and-left _ (goodBlock (m .volume .block)) counts-rest)
+  counts-files Sequential = and-right (filesFit (m .volume .conventional) c) _ (and-left _ (goodBlock (m .volume .block)) counts-rest)
 
-  pub counts-most : (k : FileKind) → filesOf k v ≤ mostFiles
-  counts-most k = leb-true (filesOf k v) mostFiles (and-right (leb (filesOf k v) (rowsLent (ofKind k c s))) _ (counts-files k))
+  pub counts-lent : (k : FileKind) → filesOf k (m .volume) ≤ rowsLent (ofKind k c s)
+  counts-lent k = leb-true (filesOf k (m .volume)) (rowsLent (ofKind k c s)) (and-left _ (leb (filesOf k (m .volume)) mostFiles) (counts-files k))
+
+  pub counts-most : (k : FileKind) → filesOf k (m .volume) ≤ mostFiles
+  counts-most k = leb-true (filesOf k (m .volume)) mostFiles (and-right (leb (filesOf k (m .volume)) (rowsLent (ofKind k c s))) _ (counts-files k))
+
+  pub counts-room : Room (m .account)
+  counts-room = fits-room (m .volume) (m .account) counts-account (counts-most Sequential)
 
 -- and the other way round
-pub counts-in : (v : Volume) (c s : ℕ) → ((k : FileKind) → filesOf k v ≤ rowsLent (ofKind k c s)) → ((k : FileKind) → filesOf k v ≤ mostFiles)
-    → goodBlock (v .block) ≡ true → countsFit v c s ≡ true
+pub counts-in : (m : Mount) (c s : ℕ) → ((k : FileKind) → filesOf k (m .volume) ≤ rowsLent (ofKind k c s)) → ((k : FileKind) → filesOf k (m .volume) ≤ mostFiles)
+    → goodBlock (m .volume .block) ≡ true → accountFits (m .volume) (m .account) ≡ true → countsFit m c s ≡ true
 unfolding countsFit
-counts-in v c s lent most good =
-    both (both (both (le-leb _ (rowsLent c) (lent Conventional)) (le-leb _ mostFiles (most Conventional)))
-    (both (le-leb _ (rowsLent s) (lent Sequential)) (le-leb _ mostFiles (most Sequential)))) good
+counts-in m c s lent most good account =
+    both (both (both (both (le-leb _ (rowsLent c) (lent Conventional)) (le-leb _ mostFiles (most Conventional)))
+    (both (le-leb _ (rowsLent s) (lent Sequential)) (le-leb _ mostFiles (most Sequential)))) good) account
 
 -- 10 (ROW)
 
@@ -66,6 +82,11 @@ unwritten : (a : Access) → (a ≡ access.Write → ⊥) → not (isWrite a) �
 unwritten access.Nothing h = refl
 unwritten access.Read h = refl
 unwritten access.Write h = absurd (h refl)
+
+write-is : (a : Access) → isWrite a ≡ true → a ≡ access.Write
+write-is access.Nothing h = absurd (false≢true h)
+write-is access.Read h = absurd (false≢true h)
+write-is access.Write h = refl
 
 not-none : (a : Access) → not (isNone a) ≡ true → a ≡ access.Nothing → ⊥
 not-none a h e = false≢true (rw e at h)
@@ -121,6 +142,7 @@ module _ (block : ℕ) (k : FileKind) (r : Row) where
       let b2 : means (isNone (r .access)) (eqb (r .size) 0) ≡ true = search (and-left, and-right) depth 12 in
       let b3 : means (isReadOnly (r .condition)) (not (isWrite (r .access))) ≡ true = search (and-left, and-right) depth 12 in
       let b4 : full k (r .access) (r .size) (r .capacity) ≡ true = search (and-left, and-right) depth 12 in
+      let b5 : openable r ≡ true = search (and-left, and-right) depth 12 in
       record {
         started = ltb-true 0 (r .start) a1;
         aligned = eqb-true _ 0 a2;
@@ -133,6 +155,7 @@ module _ (block : ℕ) (k : FileKind) (r : Row) where
         none = λ e. eqb-true (r .size) 0 (means-out (isNone (r .access)) _ b2 (rw e));
         readonly = λ e. not-write (r .access) (means-out (isReadOnly (r .condition)) _ b3 (rw e));
         full = λ e n. eqb-true (r .size) (r .capacity) (means-out (isConventional k && not (isNone (r .access))) _ b4 (both (ap isConventional e) (some-is (r .access) n)));
+        openable = λ e. write-is (r .access) (means-out (isOpen r) _ b5 (lt-ltb 0 (r .opens) e));
       }
 
   -- and the other way round
@@ -148,7 +171,11 @@ module _ (block : ℕ) (k : FileKind) (r : Row) where
       let readonly = means-in (isReadOnly (r .condition)) _ (λ e. unwritten (r .access) (w .readonly (readonly-is (r .condition) e))) in
       let full = means-in (isConventional k && not (isNone (r .access))) _ (λ e.
       eq-eqb (r .size) (r .capacity) (w .full (conventional-is k (and-left _ _ e)) (not-none (r .access) (and-right (isConventional k) _ e)))) in
-      both (both (both (both (both starts holds) ends) sized) (both (both offline none) readonly)) full
+      let openable = means-in (isOpen r) _ (λ e. ap isWrite (w .openable (ltb-true 0 (r .opens) e))) in
+      both (both (both (both (both (both starts holds) ends) sized) (both (both offline none) readonly)) full) openable
+
+  pub sound-openable : soundRow block k r ≡ true → openable r ≡ true
+  sound-openable h = means-in (isOpen r) _ (λ e. ap isWrite (sound-row h .openable (ltb-true 0 (r .opens) e)))
 
 -- 10 (COUNTS), 1, 10 (ROW)
 
@@ -175,57 +202,69 @@ module _ (v : Volume) (cnv seq : List ℕ) (k : FileKind) (i : ℕ) where
   unfolding lookupOf
   lookup-none e = not-in-table (ofKind k cnv seq) (filesOf k v) i e
 
-module _ (v : Volume) (cnv seq : List ℕ) (k : FileKind) (i : ℕ) (r : Row) where
+module _ (m : Mount) (cnv seq : List ℕ) (k : FileKind) (i : ℕ) (r : Row) where
   -- a row that is found and sound
-  reached : countsFit v (length cnv) (length seq) ≡ true → lookupOf v cnv seq k i ≡ lookup.Found (slot.Good r) → soundRow (v .block) k r ≡ true
-      → Reached v cnv seq k i r
+  reached : countsFit m (length cnv) (length seq) ≡ true → lookupOf (m .volume) cnv seq k i ≡ lookup.Found (slot.Good r)
+      → soundRow (m .volume .block) k r && counted m k r ≡ true → Reached m cnv seq k i r
   unfolding lookupOf
-  reached h e d = let (l, q) = in-table (ofKind k cnv seq) (filesOf k v) i (slot.Good r) e in record { counts = h; number = l; row = q; sound = d }
+  reached h e d =
+      let (l, q) = in-table (ofKind k cnv seq) (filesOf k (m .volume)) i (slot.Good r) e in
+      record { counts = h; number = l; row = q; sound = and-left _ (counted m k r) d; counted = and-right (soundRow (m .volume .block) k r) _ d }
 
-  pub file-reached : fileOf v cnv seq k i ≡ checked.Good r → Reached v cnv seq k i r
+  pub file-reached : fileOf m cnv seq k i ≡ checked.Good r → Reached m cnv seq k i r
   unfolding fileOf
-  file-reached e = counted (countsFit v (length cnv) (length seq)) refl e
+  file-reached e = counting (countsFit m (length cnv) (length seq)) refl e
     where
-      sounded : (y : Row) (t : Bool) → soundRow (v .block) k y ≡ t → countsFit v (length cnv) (length seq) ≡ true → lookupOf v cnv seq k i ≡ lookup.Found (slot.Good y)
-          → cond t (checked.Good y) (checked.Refused refusal.Impossible) ≡ checked.Good r → Reached v cnv seq k i r
+      sounded : (y : Row) (t : Bool) → soundRow (m .volume .block) k y && counted m k y ≡ t → countsFit m (length cnv) (length seq) ≡ true
+          → lookupOf (m .volume) cnv seq k i ≡ lookup.Found (slot.Good y)
+          → cond t (checked.Good y) (checked.Refused refusal.Impossible) ≡ checked.Good r → Reached m cnv seq k i r
       sounded y true d h f e = let q : y ≡ r = cc in reached h (rw q at f) (rw q at d)
       sounded y false d h f e = let z : _≡_ {A = ℕ} 0 1 = cc in absurd (omega arith)
 
-      looked : (x : Lookup) → countsFit v (length cnv) (length seq) ≡ true → lookupOf v cnv seq k i ≡ x → foundRow (v .block) k x ≡ checked.Good r → Reached v cnv seq k i r
-      looked (lookup.Found (slot.Good y)) h f e = sounded y (soundRow (v .block) k y) refl h f e
+      looked : (x : Lookup) → countsFit m (length cnv) (length seq) ≡ true → lookupOf (m .volume) cnv seq k i ≡ x → foundRow m k x ≡ checked.Good r → Reached m cnv seq k i r
+      looked (lookup.Found (slot.Good y)) h f e = sounded y (soundRow (m .volume .block) k y && counted m k y) refl h f e
       looked (lookup.Found (slot.Impossible o)) h f e = let z : _≡_ {A = ℕ} 0 1 = cc in absurd (omega arith)
       looked lookup.Nothing h f e = let z : _≡_ {A = ℕ} 0 1 = cc in absurd (omega arith)
 
-      counted : (t : Bool) → countsFit v (length cnv) (length seq) ≡ t
-          → cond t (foundRow (v .block) k (lookupOf v cnv seq k i)) (checked.Refused refusal.Impossible) ≡ checked.Good r → Reached v cnv seq k i r
-      counted true h e = looked (lookupOf v cnv seq k i) h refl e
-      counted false h e = let z : _≡_ {A = ℕ} 0 1 = cc in absurd (omega arith)
+      counting : (t : Bool) → countsFit m (length cnv) (length seq) ≡ t
+          → cond t (foundRow m k (lookupOf (m .volume) cnv seq k i)) (checked.Refused refusal.Impossible) ≡ checked.Good r → Reached m cnv seq k i r
+      counting true h e = looked (lookupOf (m .volume) cnv seq k i) h refl e
+      counting false h e = let z : _≡_ {A = ℕ} 0 1 = cc in absurd (omega arith)
 
-  pub reached-file : Reached v cnv seq k i r → fileOf v cnv seq k i ≡ checked.Good r
+  pub reached-file : Reached m cnv seq k i r → fileOf m cnv seq k i ≡ checked.Good r
   unfolding fileOf lookupOf
-  reached-file w = simp (w .counts, lt-ltb i (filesOf k v) (w .number), w .row, w .sound)
+  reached-file w = simp (w .counts, lt-ltb i (filesOf k (m .volume)) (w .number), w .row, w .sound, w .counted)
 
   -- its row is lent
-  pub reached-lent : Reached v cnv seq k i r → i < rowsLent (length (ofKind k cnv seq))
-  reached-lent w = lent k (w .number) (counts-lent v (length cnv) (length seq) (w .counts) k)
+  pub reached-lent : Reached m cnv seq k i r → i < rowsLent (length (ofKind k cnv seq))
+  reached-lent w = lent k (w .number) (counts-lent m (length cnv) (length seq) (w .counts) k)
     where
-      lent : (k : FileKind) → i < filesOf k v → filesOf k v ≤ rowsLent (ofKind k (length cnv) (length seq)) → i < rowsLent (length (ofKind k cnv seq))
+      lent : (k : FileKind) → i < filesOf k (m .volume) → filesOf k (m .volume) ≤ rowsLent (ofKind k (length cnv) (length seq)) → i < rowsLent (length (ofKind k cnv seq))
       lent Conventional a b = omega arith
       lent Sequential a b = omega arith
 
-  pub reached-sound : Reached v cnv seq k i r → SoundRow (v .block) k r
-  reached-sound w = sound-row (v .block) k r (w .sound)
+  pub reached-sound : Reached m cnv seq k i r → SoundRow (m .volume .block) k r
+  reached-sound w = sound-row (m .volume .block) k r (w .sound)
 
 -- in order: what the file is where a check refuses it, and past the counts and the lookup
-module _ (v : Volume) (cnv seq : List ℕ) (k : FileKind) (i : ℕ) where
-  pub file-counts : countsFit v (length cnv) (length seq) ≡ false → fileOf v cnv seq k i ≡ checked.Refused refusal.Impossible
+module _ (m : Mount) (cnv seq : List ℕ) (k : FileKind) (i : ℕ) where
+  pub file-counts : countsFit m (length cnv) (length seq) ≡ false → fileOf m cnv seq k i ≡ checked.Refused refusal.Impossible
   unfolding fileOf
   file-counts h = rw h
 
-  pub file-none : countsFit v (length cnv) (length seq) ≡ true → lookupOf v cnv seq k i ≡ lookup.Nothing → fileOf v cnv seq k i ≡ checked.Refused refusal.NoFile
+  pub file-none : countsFit m (length cnv) (length seq) ≡ true → lookupOf (m .volume) cnv seq k i ≡ lookup.Nothing → fileOf m cnv seq k i ≡ checked.Refused refusal.NoFile
   unfolding fileOf
   file-none h e = rw (h, e)
 
-  pub file-found : {x : Slot} → countsFit v (length cnv) (length seq) ≡ true → lookupOf v cnv seq k i ≡ lookup.Found x → fileOf v cnv seq k i ≡ soundSlot (v .block) k x
+  pub file-found : {x : Slot} → countsFit m (length cnv) (length seq) ≡ true → lookupOf (m .volume) cnv seq k i ≡ lookup.Found x → fileOf m cnv seq k i ≡ soundSlot m k x
   unfolding fileOf
   file-found h e = rw (h, e)
+
+-- 10 (row) in two steps
+pub slot-counted : (m : Mount) (k : FileKind) (x : Slot) → countedFile m k (ruledSlot (m .volume .block) k x) ≡ soundSlot m k x
+slot-counted m k (slot.Good r) = by (soundRow (m .volume .block) k r)
+  where
+    by : (p : Bool) → countedFile m k (cond p (checked.Good r) (checked.Refused refusal.Impossible)) ≡ cond (p && counted m k r) (checked.Good r) (checked.Refused refusal.Impossible)
+    by true = refl
+    by false = refl
+slot-counted m k (slot.Impossible o) = refl

@@ -6,6 +6,7 @@ use mathlib.Core.Bool.{Bool, cond, not, _&&_}
 use lib.ListN.{length}
 use lib.Dec.{eqb, leb, ltb}
 use Rattle.types.specs.declared.Volume.{Volume}
+use Rattle.types.specs.declared.Mount.{Mount}
 use Rattle.types.specs.declared.Row.{Row}
 use Rattle.types.specs.declared.FileKind.{FileKind}
 use Rattle.types.specs.declared.Condition.{Condition}
@@ -15,6 +16,7 @@ use Rattle.types.specs.declared.Refusal.the-variants as refusal
 use Rattle.types.specs.Blocks.{sectorBytes, blockSectors, goodBlock, onBlock, wholeBlocks, endsInReach, mostFiles}
 use Rattle.types.specs.Kinds.{ofKind, filesOf}
 use Rattle.types.specs.Predicates.{means, isConventional, isReadOnly, isOffline, isNone, isWrite}
+use Rattle.account.specs.Account.{isOpen, accountFits, counted}
 use Rattle.table.specs.declared.Slot.{Slot}
 use Rattle.table.specs.declared.Slot.the-variants as slot
 use Rattle.table.specs.Rows.{rowsLent, rowAt}
@@ -23,14 +25,16 @@ use Rattle.checks.specs.declared.Lookup.the-variants.{Found, Nothing}
 use Rattle.checks.specs.declared.Checked.{Checked}
 use Rattle.checks.specs.declared.Checked.the-variants.{Good, Refused}
 
--- ---- 10 (counts): "more files of either kind than rows lent or than 1,022, a wrong block"
+-- ---- 10 (counts): "more files of either kind than rows lent or than 1,022, a wrong block", and 02: "an account above the seq file count"
 
 abbrev pub filesFit : ℕ → ℕ → Bool
 filesFit files words = leb files (rowsLent words) && leb files mostFiles
 
 -- of a mount, and the words of its conventional and of its sequential table
-unfoldable pub countsFit : Volume → ℕ → ℕ → Bool
-countsFit v cnv seq = filesFit (v .conventional) cnv && filesFit (v .sequential) seq && goodBlock (v .block)
+unfoldable pub countsFit : Mount → ℕ → ℕ → Bool
+countsFit m cnv seq =
+    filesFit (m .volume .conventional) cnv && filesFit (m .volume .sequential) seq && goodBlock (m .volume .block)
+    && accountFits (m .volume) (m .account)
 
 -- ---- 1: "no such file"
 
@@ -42,8 +46,8 @@ unfoldable pub lookupOf : Volume → List ℕ → List ℕ → FileKind → ℕ 
 lookupOf v cnv seq k i = rowIn (ofKind k cnv seq) (filesOf k v) i
 
 -- "a kind above 1 answers 1": past 10 (counts)
-abbrev pub noKind : Volume → ℕ → ℕ → Refusal
-noKind v cnv seq = cond (countsFit v cnv seq) refusal.NoFile refusal.Impossible
+abbrev pub noKind : Mount → ℕ → ℕ → Refusal
+noKind m cnv seq = cond (countsFit m cnv seq) refusal.NoFile refusal.Impossible
 
 -- ---- 10 (row): "a named row that breaks these"
 
@@ -64,23 +68,28 @@ allowed c a size = means (isOffline c) (isNone a) && means (isNone a) (eqb size 
 abbrev pub full : FileKind → Access → ℕ → ℕ → Bool
 full k a size capacity = means (isConventional k && not (isNone a)) (eqb size capacity)
 
+-- 02: no "opens in a row without write access"
+abbrev pub openable : Row → Bool
+openable r = means (isOpen r) (isWrite (r .access))
+
 unfoldable pub soundRow : ℕ → FileKind → Row → Bool
 soundRow block k r =
     placed block (r .start) (r .capacity) && sized block (r .capacity) (r .size)
-    && allowed (r .condition) (r .access) (r .size) && full k (r .access) (r .size) (r .capacity)
+    && allowed (r .condition) (r .access) (r .size) && full k (r .access) (r .size) (r .capacity) && openable r
 
-abbrev pub soundSlot : ℕ → FileKind → Slot → Checked
-soundSlot block k (slot.Good r) = cond (soundRow block k r) (Good r) (Refused refusal.Impossible)
-soundSlot block k (slot.Impossible o) = Refused refusal.Impossible
+-- and beside the account, 02: not "0 in what the named row counts in"
+abbrev pub soundSlot : Mount → FileKind → Slot → Checked
+soundSlot m k (slot.Good r) = cond (soundRow (m .volume .block) k r && counted m k r) (Good r) (Refused refusal.Impossible)
+soundSlot m k (slot.Impossible o) = Refused refusal.Impossible
 
 -- ---- in order
 
 -- 1, then 10 (row)
-abbrev pub foundRow : ℕ → FileKind → Lookup → Checked
-foundRow block k (Found x) = soundSlot block k x
-foundRow block k Nothing = Refused refusal.NoFile
+abbrev pub foundRow : Mount → FileKind → Lookup → Checked
+foundRow m k (Found x) = soundSlot m k x
+foundRow m k Nothing = Refused refusal.NoFile
 
 -- 10 (counts), 1, 10 (row): the row of file i of a kind, or the refusal
-unfoldable pub fileOf : Volume → List ℕ → List ℕ → FileKind → ℕ → Checked
-fileOf v cnv seq k i =
-    cond (countsFit v (length cnv) (length seq)) (foundRow (v .block) k (lookupOf v cnv seq k i)) (Refused refusal.Impossible)
+unfoldable pub fileOf : Mount → List ℕ → List ℕ → FileKind → ℕ → Checked
+fileOf m cnv seq k i =
+    cond (countsFit m (length cnv) (length seq)) (foundRow m k (lookupOf (m .volume) cnv seq k i)) (Refused refusal.Impossible)

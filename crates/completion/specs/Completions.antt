@@ -19,12 +19,13 @@ use Rattle.types.specs.Codes.{isKind, kindFrom}
 use Rattle.types.specs.Effects.{refusing}
 use Rattle.types.specs.Mounts.{readOnly}
 use Rattle.table.specs.Rows.{cleared}
+use Rattle.account.specs.Account.{accounted}
 use Rattle.checks.specs.Checks.{noKind}
 use Rattle.zones.specs.declared.Zone.{Zone}
 use Rattle.zones.specs.Zone.{zoneBytes, zoneAt}
 use Rattle.recovery.specs.Success.{rowAfter}
 use Rattle.recovery.specs.Fits.{recordFits, misfit}
-use Rattle.recovery.specs.Recovery.{nothingLost, recoveredRow}
+use Rattle.recovery.specs.Recovery.{nothingLost, recoveredRow, keptOpen}
 use Rattle.held.specs.declared.Pending.{Pending}
 use Rattle.held.specs.declared.Pending.the-variants as pending
 use Rattle.held.specs.Held.{pendingOf}
@@ -47,10 +48,10 @@ completionBy done given bytes = cond done good (completionOf given bytes)
 
 -- ---- "Success: a seq write adds its length to size, reset makes 0, finish capacity; answers the count (read, write) or 0."
 
--- the count is the command's length, "0 but for reads and writes"
+-- the count is the command's length, "0 but for reads and writes"; 02: the account is "corrected in place"
 unfoldable pub succeeded : Mount → Held → Row → Effect
 succeeded m h r = record {
-  outcome = record { answer = Done (h .command .length); mount = m };
+  outcome = record { answer = Done (h .command .length); mount = accounted m (h .kind) r (rowAfter (h .kind) (h .command) r) };
   store = store.Put (h .kind) (h .number) (cleared (rowAfter (h .kind) (h .command) r));
 }
 
@@ -70,15 +71,15 @@ markedBy ZoneRo m = m
 markedBy ZoneOffline m = m
 markedBy Repair m = m
 
--- with the recovered row
-abbrev pub recovering : Mount → Held → Row → Effect
-recovering m h r = failing (markedBy (m .volume .policy) m) h r
+-- with the row before and the recovered row; 02: the account is "corrected in place"
+abbrev pub recovering : Mount → Held → Row → Row → Effect
+recovering m h before r = failing (accounted (markedBy (m .volume .policy) m) (h .kind) before r) h r
 
 -- "A failed read with .. recovers nothing. Every other failure applies 000's table"
 unfoldable pub recovered : Mount → Held → Row → Zone → Effect
 recovered m h r z =
     cond (nothingLost (h .kind) (h .command .kind) z (r .size)) (failing m h r)
-    (recovering m h (recoveredRow (m .volume .policy) (h .kind) z r))
+    (recovering m h r (keptOpen (h .command .kind) (recoveredRow (m .volume .policy) (h .kind) z r)))
 
 -- ---- 02: "Completions check 10 (counts), 1, 8, 10 (row), 9.", the last on failure
 
@@ -101,4 +102,4 @@ effectOf m cnv seq k i x = effectPending m (pendingOf m cnv seq k i) x
 -- of a kind that is given as a number: "kind byte 0 cnv or 1 seq", "a kind above 1 answers 1"
 unfoldable pub effectBy : Mount → List ℕ → List ℕ → ℕ → ℕ → Completion → Effect
 effectBy m cnv seq n i x =
-    cond (isKind n) (effectOf m cnv seq (kindFrom n) i x) (refusing m (noKind (m .volume) (length cnv) (length seq)))
+    cond (isKind n) (effectOf m cnv seq (kindFrom n) i x) (refusing m (noKind m (length cnv) (length seq)))

@@ -1,6 +1,7 @@
 // Completions: what the success or the failure of a file's held command answers, does to the mount, and stores of its row.
 ghost use mathlib.Core.Path.{_≡_};
 ghost use Rattle.recovery.specs.Facts.{Fitting};
+ghost use Rattle.account.specs.Facts.{Room};
 ghost use Rattle.held.specs.Facts.{Safe, PendingSafe};
 ghost use Rattle.completion.specs.Completions.{Completion, completionOf, completionBy, succeeded, failing, markedBy, recovering, recovered, effectOn, effectPending, effectOf, effectBy};
 use held::Pending;
@@ -23,13 +24,15 @@ fn succeeded(m: Mount, h: Held, row: Row) -> Effect
 {
     let kind = h.kind;
     let command = h.command;
-    let after = table::cleared(recovery::success::row_after(kind, command, row));
+    let after = recovery::success::row_after(kind, command, row);
+    let mount = account::accounted(m, kind, row, after);
+    let left = table::cleared(after);
     Effect {
         outcome: Outcome {
             answer: Answer::Done(command.length),
-            mount: m,
+            mount,
         },
-        store: Store::Put(kind, h.number, after),
+        store: Store::Put(kind, h.number, left),
     }
 }
 
@@ -59,16 +62,20 @@ fn failing(m: Mount, h: Held, row: Row) -> Effect
     }
 }
 
-fn recovering(m: Mount, h: Held, row: Row) -> Effect
-    ensures { λ r. ⌜ r ≡ recovering m h row ⌝ }
+// The command failed, and its file was recovered: the row before, and the row then.
+fn recovering(m: Mount, h: Held, before: Row, row: Row) -> Effect
+    requires { ⌜ Room (m .account) ⌝ }
+    ensures { λ r. ⌜ r ≡ recovering m h before row ⌝ }
 {
     let volume = m.volume;
     let policy = volume.policy;
-    failing(marked_by(policy, m), h, row)
+    let kind = h.kind;
+    let mount = account::accounted(marked_by(policy, m), kind, before, row);
+    failing(mount, h, row)
 }
 
 fn recovered(m: Mount, h: Held, row: Row, z: Zone) -> Effect
-    requires { ⌜ Fitting (h .kind) z ⌝ }
+    requires { ⌜ Room (m .account) × Fitting (h .kind) z ⌝ }
     ensures { λ r. ⌜ r ≡ recovered m h row z ⌝ }
 {
     let command = h.command;
@@ -79,7 +86,8 @@ fn recovered(m: Mount, h: Held, row: Row, z: Zone) -> Effect
     }
     let volume = m.volume;
     let policy = volume.policy;
-    recovering(m, h, recovery::recovered_row(policy, kind, z, row))
+    let after = recovery::recovered_row(policy, kind, z, row);
+    recovering(m, h, row, recovery::kept_open(failed, after))
 }
 
 // Check 9, and then as the record says.
@@ -160,7 +168,6 @@ pub fn end_by(
         let k = types::codes::kind_from(kind);
         end_command(m, cnv, seq, k, number, done, bytes, given)
     } else {
-        let v = m.volume;
-        types::effects::refusing(m, checks::no_kind(v, cnv.len(), seq.len()))
+        types::effects::refusing(m, checks::no_kind(m, cnv.len(), seq.len()))
     }
 }

@@ -5,7 +5,7 @@ use mathlib.Core.Path.{_≡_, refl, _∙_}
 use Prim.Native.Nat.{ℕ, _*_, _%_, _≤_, _<_}
 use Rattle.types.specs.declared.Row.{Row}
 use Rattle.types.specs.declared.Outstanding.{Outstanding}
-use Rattle.table.specs.Rows.{withOutstanding}
+use Rattle.table.specs.Rows.{withOutstanding, withOpens}
 use Rattle.types.specs.declared.FileKind.the-variants.{Sequential}
 use Rattle.types.specs.declared.Condition.{Condition}
 use Rattle.types.specs.declared.Condition.the-variants.{Healthy, ReadOnly, Offline}
@@ -74,11 +74,11 @@ pub record Agrees (b : ℕ) (p : ErrorPolicy) (z : DiskZone) (s : FileHistory) (
   pub capacity : r .capacity ≡ z .capacity * 512
   pub state : RowState b p z s r
 
--- WHAT IS OUTSTANDING makes no difference.
-pub agrees-held : {b : ℕ} {p : ErrorPolicy} {z : DiskZone} {s : FileHistory} {r : Row} (o : Outstanding) → Agrees b p z s r → Agrees b p z s (withOutstanding r o)
-agrees-held {b} {p} {z} {s} {r} o a = record { kind = a .kind; sound = a .sound; inner = a .inner; start = a .start; capacity = a .capacity; state = by (a .state) }
+-- WHAT IS OUTSTANDING makes no difference, and neither do the opens.
+pub agrees-beside : {b : ℕ} {p : ErrorPolicy} {z : DiskZone} {s : FileHistory} {r : Row} (n : ℕ) (o : Outstanding) → Agrees b p z s r → Agrees b p z s (withOutstanding (withOpens r n) o)
+agrees-beside {b} {p} {z} {s} {r} n o a = record { kind = a .kind; sound = a .sound; inner = a .inner; start = a .start; capacity = a .capacity; state = by (a .state) }
   where
-    by : RowState b p z s r → RowState b p z s (withOutstanding r o)
+    by : RowState b p z s r → RowState b p z s (withOutstanding (withOpens r n) o)
     by (live l) =
         live (record {
           size = l .size;

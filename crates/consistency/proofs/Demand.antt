@@ -55,9 +55,9 @@ use Rattle.mount.proofs.Leaves.{cnvs, seqs, Accepts, accepts, leaves, mount-lea
 use Rattle.consistency.proofs.Start.{files-start, covers-start, covers-nth}
 use Rattle.consistency.proofs.Fresh.{all-good, seq-count, file-shown, cnv-count}
 
-module _ (block : ℕ) (superblock options report cnv seq : List ℕ) where
+module _ (block : ℕ) (superblock options report : List ℕ) (openLimit activeLimit : ℕ) (cnv seq : List ℕ) where
   -- the system that it leaves
-  invariant-mounted : Accepts block superblock options report cnv seq → (disk : List DiskZone) → ShowsZones (zonesOf report) disk → let new = leaves block superblock options report cnv seq in Possible (engine.mounted new) → Invariant (new .mount .volume) (kinds disk) (mounted new disk)
+  invariant-mounted : Accepts block superblock options report openLimit activeLimit cnv seq → (disk : List DiskZone) → ShowsZones (zonesOf report) disk → let new = leaves block superblock options report openLimit activeLimit cnv seq in Possible (engine.mounted new) → Invariant (new .mount .volume) (kinds disk) (mounted new disk)
   unfolding mounted fileZones
   invariant-mounted t disk ws possible =
       let b = is-block block (t .unit) in
@@ -66,24 +66,24 @@ module _ (block : ℕ) (superblock options report cnv seq : List ℕ) where
         same = refl;
         block = b;
         zones = refl;
-        rows = seqs block superblock options report cnv seq;
+        rows = seqs block superblock options report openLimit activeLimit cnv seq;
         listed = fill-listed seq _ (t .seqFit);
         files = files-start b (policyOf (optionsOf options)) ws good;
-        plain = cnvs block superblock options report cnv seq;
+        plain = cnvs block superblock options report openLimit activeLimit cnv seq;
         plainly = fill-listed cnv _ (t .cnvFit);
         covers = λ n h. covers-nth (covers-start b (aggregated superblock) ws good) n h;
         possible = possible;
       }
 
   -- after any list of truthful events
-  invariant-from : (disk : List DiskZone) → Start block superblock options report cnv seq disk → (events : List Event) → let first = mounted (mountOutcome block superblock options report cnv seq) disk in
-      allTruthful first events ≡ true → Invariant (leaves block superblock options report cnv seq .mount .volume) (kinds disk) (run first events)
+  invariant-from : (disk : List DiskZone) → Start block superblock options report openLimit activeLimit cnv seq disk → (events : List Event) → let first = mounted (mountOutcome block superblock options report openLimit activeLimit cnv seq) disk in
+      allTruthful first events ≡ true → Invariant (leaves block superblock options report openLimit activeLimit cnv seq .mount .volume) (kinds disk) (run first events)
   unfolding MountedPossible
   invariant-from disk s events =
-      let t = accepts block superblock options report cnv seq (s .answer) in
+      let t = accepts block superblock options report openLimit activeLimit cnv seq (s .answer) in
       let shown = shows-told report disk (s .shown) in
-      let left = mount-leaves block superblock options report cnv seq t in
-      let possible = subst (λ (o : Mounting). Possible (engine.mounted o)) left (mounted-possible block superblock options report cnv seq (s .answer)) in
+      let left = mount-leaves block superblock options report openLimit activeLimit cnv seq t in
+      let possible = subst (λ (o : Mounting). Possible (engine.mounted o)) left (mounted-possible block superblock options report openLimit activeLimit cnv seq (s .answer)) in
       rw left (invariant-run (invariant-mounted t disk (shown .zones) possible) events)
 
 module _ (h : History) where
@@ -91,16 +91,16 @@ module _ (h : History) where
   w = after h
 
   abbrev fixed : Volume
-  fixed = leaves (h .block) (h .superblock) (h .options) (h .report) (h .cnv) (h .seq) .mount .volume
+  fixed = leaves (h .block) (h .superblock) (h .options) (h .report) (h .openLimit) (h .activeLimit) (h .cnv) (h .seq) .mount .volume
 
   shown : Shows (h .report) (h .disk)
   shown = shows-told (h .report) (h .disk) (h .start .shown)
 
   invariant : Invariant fixed (kinds (h .disk)) w
-  invariant = invariant-from (h .block) (h .superblock) (h .options) (h .report) (h .cnv) (h .seq) (h .disk) (h .start) (h .events) (h .honest)
+  invariant = invariant-from (h .block) (h .superblock) (h .options) (h .report) (h .openLimit) (h .activeLimit) (h .cnv) (h .seq) (h .disk) (h .start) (h .events) (h .honest)
 
-  first : Accepts (h .block) (h .superblock) (h .options) (h .report) (h .cnv) (h .seq)
-  first = accepts (h .block) (h .superblock) (h .options) (h .report) (h .cnv) (h .seq) (h .start .answer)
+  first : Accepts (h .block) (h .superblock) (h .options) (h .report) (h .openLimit) (h .activeLimit) (h .cnv) (h .seq)
+  first = accepts (h .block) (h .superblock) (h .options) (h .report) (h .openLimit) (h .activeLimit) (h .cnv) (h .seq) (h .start .answer)
 
   same-block : w .state .mount .volume .block ≡ h .block
   same-block = ap (λ (v : Volume). v .block) (invariant .same)
@@ -124,7 +124,7 @@ module _ (h : History) where
     unfolding fileZones
     cnvs-again = cnv-count (aggregated (h .superblock)) (seen .zones) (shown .zones) (invariant .zones)
 
-    again : Accepts (h .block) (h .superblock) (h .options) (f .report) (f .cnv) (f .seq)
+    again : Accepts (h .block) (h .superblock) (h .options) (f .report) (h .openLimit) (h .activeLimit) (f .cnv) (f .seq)
     again = record {
       unit = first .unit;
       super = first .super;
@@ -155,7 +155,7 @@ module _ (h : History) where
 
     consistent : Consistent (policyOf (optionsOf (h .options))) w (freshMount h f)
     consistent =
-        let g = mount-leaves (h .block) (h .superblock) (h .options) (f .report) (f .cnv) (f .seq) again in
+        let g = mount-leaves (h .block) (h .superblock) (h .options) (f .report) (h .openLimit) (h .activeLimit) (f .cnv) (f .seq) again in
         record { answer = rw g; files = rw g seqs-again; rows = rw g compares }
 
 -- THE CLAIM
@@ -183,7 +183,7 @@ module _ (h : History) (k : FileKind) (n : ℕ) (c : Command) (e : outstandingOn
       let g = completed-so k e told in
       let s = after h .state in
       let fixes = effect-fixes (s .mount) (s .cnv) (s .seq) k n (completionBy (performIn (after h) c o .succeeded) given bytes) in
-      let there = subst (λ (v : Volume). n < filesOf k v) (sym fixes) (known (invariant h) k n c e) in
+      let there = subst (λ (v : Volume). n < filesOf k v) (sym (fixes .0)) (known (invariant h) k n c e) in
       let new = new (invariant h) k n c e o given bytes in (
         ap answerNumber (g .answer) ∙ reply-number (performIn (after h) c o .succeeded) c new,
         row-on (applied s done) k n new there (ap (λ (t : List ℕ). rowAt t n) (of-stored k (done .store) (s .cnv) (s .seq)) ∙ g .here .here),
@@ -230,8 +230,8 @@ always-recorded h = record {
 -- A DISK that a mount's report shows
 pub always-started : AlwaysStarted
 unfolding AlwaysStarted
-always-started block superblock options report cnv seq zeroed =
-    let t = accepts block superblock options report cnv seq zeroed in
+always-started block superblock options report openLimit activeLimit cnv seq zeroed =
+    let t = accepts block superblock options report openLimit activeLimit cnv seq zeroed in
     let good = report-told (blockSectors block) report (t .report) in
     let shown = zones-found (blockSectors block) 0 (zonesOf report) (good .zones) in
     (map zoneFound (zonesOf report), record { answer = zeroed; shown = report-shows (record { header = good .header; zones = shown }) })

@@ -12,12 +12,13 @@ use Rattle.types.specs.declared.FileKind.{FileKind}
 use Rattle.types.specs.declared.FileKind.the-variants.{Sequential}
 use Rattle.types.specs.declared.Condition.the-variants.{Healthy}
 use Rattle.types.specs.declared.ErrorPolicy.{ErrorPolicy}
-use Rattle.types.specs.Commands.{movementOf, isRead}
+use Rattle.types.specs.Commands.{movementOf}
+use Rattle.types.specs.Predicates.{isHealthy}
 use Rattle.types.proofs.Tests.{and-left}
 use Rattle.types.proofs.Blocks.{IsBlock}
 use Rattle.zones.specs.declared.Zone.{Zone}
 use Rattle.recovery.specs.Success.{rowAfter}
-use Rattle.disk.specs.Disk.{DiskZone, moved, struck, Choice, perform, performedBy, allows, allowsBy, landedBy}
+use Rattle.disk.specs.Disk.{DiskZone, moved, struck, Choice, perform, performedBy, allows, takesAt, landedBy}
 use Rattle.disk.specs.Facts.{ShowsZone}
 use Rattle.consistency.specs.FileHistory.{FileHistory, afterFailure, afterCommand}
 use Rattle.disk.proofs.Whole.{At, at-write, whole-min}
@@ -25,6 +26,7 @@ use Rattle.disk.proofs.Conditions.{not-better}
 use Rattle.disk.proofs.SoundZone.{SoundZone, sound-struck}
 use Rattle.consistency.proofs.Agrees.{Agrees, Live, RowState, live, dead}
 use Rattle.held.proofs.Issued.{Issued, Placed}
+use Rattle.consistency.proofs.Moves.{advances-only}
 use Rattle.consistency.proofs.Successes.{advanced-seq, at-place, keeps-success}
 use Rattle.consistency.proofs.Failures.{failedRow, keeps-failed}
 
@@ -42,26 +44,30 @@ live-of {b} {p} {z} {s} {r} a i = by (a .state)
     by (dead d) = let e = d .access in let f = i .readable in let x : _≡_ {A = ℕ} 0 1 = cc in absurd (omega arith)
 
 module _ {b : ℕ} {p : ErrorPolicy} {z : DiskZone} {s : FileHistory} {r : Row} (block : IsBlock b) (a : Agrees b p z s r) (c : Command) (i : Issued b Sequential r c) where
+  -- what an append asks of the zone that takes it
+  taken : movementOf (c .kind) ≡ Advances → allows (s .quiet) z c ≡ true → isHealthy (z .condition) && takesAt (z .kind) (z .pointer) (c .address) ≡ true
+  unfolding allows
+  taken e g = rw (advances-only (c .kind) e, e) at g
+
   -- where the pointer is once some blocks have landed
-  landed-by : (v : Movement) (read t : Bool) → (v ≡ Advances → Placed b r c) → allowsBy v read (s .quiet) z (c .address) ≡ t → (lands : ℕ) → z .condition ≡ Healthy
+  landed-by : (v : Movement) (t : Bool) → (v ≡ Advances → Placed b r c) → (v ≡ Advances → t ≡ true → isHealthy (z .condition) && takesAt (z .kind) (z .pointer) (c .address) ≡ true) → (lands : ℕ) → z .condition ≡ Healthy
       → At b z (landedBy v t b z (c .length) lands)
-  landed-by Stays read t f g lands h = a .sound .point (a .kind) h
-  landed-by Advances read true f g lands h =
+  landed-by Stays t f g lands h = a .sound .point (a .kind) h
+  landed-by Advances true f g lands h =
       let w = f refl in
       let n = c .length in
       subst (At b z) (sym (advanced-seq (z .kind) (z .pointer) (min (lands * b) n) (a .kind))) (at-write block z (z .pointer) (min (lands * b) n) (a .sound .point (a .kind) h) (whole-min block lands n (w .whole))
-      (omega (arith, w .room, a .capacity, at-place block a (live-of a i) w g)))
-  landed-by Advances read false f g lands h = a .sound .point (a .kind) h
-  landed-by ToStart read t f g lands h = a .sound .point (a .kind) h
-  landed-by ToEnd read t f g lands h = a .sound .point (a .kind) h
+      (omega (arith, w .room, a .capacity, at-place block a (live-of a i) w (g refl refl))))
+  landed-by Advances false f g lands h = a .sound .point (a .kind) h
+  landed-by ToStart t f g lands h = a .sound .point (a .kind) h
+  landed-by ToEnd t f g lands h = a .sound .point (a .kind) h
 
   -- the zone after a failure is good input
   abbrev pub failedZone : Choice → DiskZone
   failedZone o = struck b z (landedBy (movementOf (c .kind)) (allows (s .quiet) z c) b z (c .length) (o .lands)) (o .mishap)
 
   pub failed-sound : (o : Choice) → SoundZone b (failedZone o)
-  unfolding allows
-  failed-sound o = sound-struck block z (a .sound) _ (o .mishap) (λ q. landed-by (movementOf (c .kind)) (isRead (c .kind)) (allows (s .quiet) z c) (i .placed refl) refl (o .lands))
+  failed-sound o = sound-struck block z (a .sound) _ (o .mishap) (λ q. landed-by (movementOf (c .kind)) (allows (s .quiet) z c) (i .placed refl) taken (o .lands))
 
   keeps-failure : (o : Choice) {q : Zone} → ShowsZone q (failedZone o) → Agrees b p (failedZone o) (afterFailure s c (failedZone o)) (failedRow Sequential p c q r)
   unfolding struck moved

@@ -7,7 +7,6 @@ use mathlib.Core.List.{List}
 use lib.ListN.{length}
 use Rattle.types.specs.declared.Mount.{Mount}
 use Rattle.types.specs.declared.Row.{Row}
-use Rattle.types.specs.declared.Held.{Held}
 use Rattle.types.specs.declared.Command.{Command}
 use Rattle.types.specs.declared.FileKind.{FileKind}
 use Rattle.types.specs.declared.FileKind.the-variants.{Conventional, Sequential}
@@ -20,7 +19,8 @@ use Rattle.table.proofs.Stores.{stored-either}
 use Rattle.zones.specs.declared.Zone.{Zone}
 use Rattle.recovery.specs.Success.{rowAfter}
 use Rattle.recovery.specs.Fits.{recordFits}
-use Rattle.recovery.specs.Recovery.{nothingLost, recoveredRow}
+use Rattle.recovery.specs.Recovery.{nothingLost, recoveredRow, keptOpen}
+use Rattle.held.specs.Held.{holdOf}
 use Rattle.held.specs.Facts.{Ready}
 use Rattle.held.proofs.Laws.{ready-lent}
 use Rattle.types.specs.declared.Effect.{Effect}
@@ -29,9 +29,6 @@ use Rattle.completion.specs.Completions.{good, failed, succeeded, failing, reco
 use Rattle.completion.proofs.Laws.{effect-ready}
 use Rattle.consistency.proofs.Bridge.{Became, set-became}
 use Rattle.consistency.proofs.Failures.{failedRow}
-
-abbrev pub holdOf : FileKind → ℕ → Command → Held
-holdOf k n c = record { kind = k; number = n; command = c }
 
 -- an effect that leaves row n of a table as `new`, and the other table as it was
 pub record Completed (c s : List ℕ) (k : FileKind) (n : ℕ) (new : Row) (a : Answer) (d : Effect) : Type 0 where
@@ -63,8 +60,8 @@ module _ (m : Mount) (c s : List ℕ) (k : FileKind) (n : ℕ) (d : Command) (r 
   unfolding recovered
   recovered-so z = by (nothingLost k (d .kind) z (r .size))
     where
-      by : (x : Bool) → let new = cond x r (recoveredRow (m .volume .policy) k z r) in
-          Completed c s k n (cleared new) (Refused (refusal.Failed (new .size))) (cond x (failing m (holdOf k n d) r) (recovering m (holdOf k n d) (recoveredRow (m .volume .policy) k z r)))
+      by : (x : Bool) → let kept = keptOpen (d .kind) (recoveredRow (m .volume .policy) k z r) in let new = cond x r kept in
+          Completed c s k n (cleared new) (Refused (refusal.Failed (new .size))) (cond x (failing m (holdOf k n d) r) (recovering m (holdOf k n d) r kept))
       by true = put-so _ _ _ refl refl
       by false = put-so _ _ _ refl refl
 

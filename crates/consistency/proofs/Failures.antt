@@ -25,7 +25,7 @@ use Rattle.zones.specs.declared.Zone.{Zone}
 use Rattle.zones.specs.Zone.{conditionOf, writtenSize}
 use Rattle.recovery.specs.declared.grid.SizeRule.{SizeRule}
 use Rattle.recovery.specs.declared.grid.AccessRule.{AccessRule}
-use Rattle.recovery.specs.Recovery.{nothingLost, ruledSize, ruledAccess, recoveryRule, recoveredRow}
+use Rattle.recovery.specs.Recovery.{nothingLost, ruledSize, ruledAccess, recoveryRule, recoveredRow, keptOpen}
 use Rattle.disk.specs.Disk.{DiskZone}
 use Rattle.disk.specs.Facts.{ShowsZone}
 use Rattle.consistency.specs.FileHistory.{FileHistory, harmless, lastSizeAt, updated, afterFailure}
@@ -33,11 +33,15 @@ use Rattle.disk.proofs.Whole.{whole-size}
 use Rattle.disk.proofs.Conditions.{notBetter, healthy-is, healthy-known, not-better-self}
 use Rattle.disk.proofs.SoundZone.{SoundZone, says-condition, says-healthy}
 use Rattle.consistency.proofs.Shown.{writtenTo, written-shown, fresh-size}
-use Rattle.consistency.proofs.Agrees.{gridRule, sizeBy, sizeOf, accessOf, Agrees, Live, live, size-last, row-last}
+use Rattle.consistency.proofs.Agrees.{gridRule, sizeBy, sizeOf, accessOf, Agrees, agrees-beside, Live, live, size-last, row-last}
 
 -- the row that a failure leaves, by the zone's record
 abbrev pub failedRow : FileKind → ErrorPolicy → Command → Zone → Row → Row
-failedRow k p c z r = cond (nothingLost k (c .kind) z (r .size)) r (recoveredRow p k z r)
+failedRow k p c z r = cond (nothingLost k (c .kind) z (r .size)) r (keptOpen (c .kind) (recoveredRow p k z r))
+
+-- and with the opens that it had
+abbrev ruledRow : FileKind → ErrorPolicy → Command → Zone → Row → Row
+ruledRow k p c z r = cond (nothingLost k (c .kind) z (r .size)) r (recoveredRow p k z r)
 
 -- A RECORD THAT SHOWS THE ZONE: a recovery by the zone itself
 
@@ -78,7 +82,7 @@ module _ {q : Zone} {z : DiskZone} (w : ShowsZone q z) (k : z .kind ≡ Sequenti
       ∙ ap (λ n. recoveredTo r n (z .condition) (ruledAccess (gridRule p (z .condition) .access) (r .access))) (size-alike p (z .condition) (writtenSize q) (writtenTo z) (r .size) (written-shown w k))
 
   failed-by : (p : ErrorPolicy) (c : Command) (r : Row)
-      → failedRow Sequential p c q r ≡ cond (nothingLost Sequential (c .kind) q (r .size)) r (recoveredBy p (z .condition) (writtenTo z) r)
+      → ruledRow Sequential p c q r ≡ cond (nothingLost Sequential (c .kind) q (r .size)) r (recoveredBy p (z .condition) (writtenTo z) r)
   failed-by p c r = ap (λ x. cond (nothingLost Sequential (c .kind) q (r .size)) r x) (recovered-by p r)
 
   lost-by : (c : CommandKind) (size : ℕ) → nothingLost Sequential c q size ≡ isRead c && (isHealthy (z .condition) && eqb size (writtenTo z))
@@ -202,6 +206,13 @@ module _ {b : ℕ} {p : ErrorPolicy} {z : DiskZone} {s : FileHistory} {r : Row} 
         mounted = l .mounted;
       })
 
-  pub keeps-failed : (c : Command) → Agrees b p new (afterFailure s c new) (failedRow Sequential p c q r)
+  keeps-ruled : (c : Command) → Agrees b p new (afterFailure s c new) (ruledRow Sequential p c q r)
   unfolding afterFailure
-  keeps-failed c = rw (same-tests (c .kind), failed-by w kind p c r) (keeps-by (c .kind) (nothingLost Sequential (c .kind) q (r .size)) refl)
+  keeps-ruled c = rw (same-tests (c .kind), failed-by w kind p c r) (keeps-by (c .kind) (nothingLost Sequential (c .kind) q (r .size)) refl)
+
+  pub keeps-failed : (c : Command) → Agrees b p new (afterFailure s c new) (failedRow Sequential p c q r)
+  keeps-failed c = by (nothingLost Sequential (c .kind) q (r .size)) (keeps-ruled c)
+    where
+      by : (t : Bool) {h : FileHistory} → let x = recoveredRow p Sequential q r in Agrees b p new h (cond t r x) → Agrees b p new h (cond t r (keptOpen (c .kind) x))
+      by true a = a
+      by false a = agrees-beside _ _ a

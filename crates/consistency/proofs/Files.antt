@@ -10,7 +10,7 @@ use lib.Seq.{map-set-same}
 use borrow.Author.Tests.{le-ltb, lt-ltb}
 use Rattle.types.specs.declared.Row.{Row}
 use Rattle.types.specs.declared.Outstanding.{Outstanding}
-use Rattle.table.specs.Rows.{withOutstanding}
+use Rattle.table.specs.Rows.{withOutstanding, withOpens}
 use Rattle.types.specs.declared.FileKind.{FileKind}
 use Rattle.types.specs.declared.FileKind.the-variants.{Conventional, Sequential}
 use Rattle.types.specs.declared.Condition.{Condition}
@@ -22,7 +22,7 @@ use Rattle.consistency.specs.FileHistory.{FileHistory}
 use Rattle.consistency.specs.System.{noHistory, holdsSeqFile}
 use Rattle.disk.proofs.SoundZone.{SoundZone, sound-moved}
 use Rattle.disk.proofs.Reported.{AllSound}
-use Rattle.consistency.proofs.Agrees.{Agrees, agrees-held}
+use Rattle.consistency.proofs.Agrees.{Agrees, agrees-beside}
 use Rattle.consistency.proofs.Bridge.{noRow}
 
 -- From a sector on: each zone starts where the last ended, and the rows are those of the files, in order, each in agreement with its
@@ -87,13 +87,13 @@ alter (other e f g t) (suc i) z s c d q v u = other e f g (alter t i z s c d q v
 alter (file {r = r} e a t) zero z s c d q v u = file (c ∙ e) (u r a) (relength _ d t)
 alter (file e a t) (suc i) z s c d q v u = file e a (alter t i z s c d q v u)
 
--- A row on which something else is outstanding.
-pub files-held : {b : ℕ} {p : ErrorPolicy} {at : ℕ} {zs : List DiskZone} {ss : List FileHistory} {rs : List Row} {k : ℕ} → Files b p at zs ss rs k → (n : ℕ) (o : Outstanding)
-    → Files b p at zs ss (set rs n (withOutstanding (getD rs n noRow) o)) k
-files-held none n o = none
-files-held (other e f g t) n o = other e f g (files-held t n o)
-files-held (file e a t) zero o = file e (agrees-held o a) t
-files-held (file e a t) (suc n) o = file e a (files-held t n o)
+-- A row with other opens, on which something else is outstanding.
+pub files-beside : {b : ℕ} {p : ErrorPolicy} {at : ℕ} {zs : List DiskZone} {ss : List FileHistory} {rs : List Row} {k : ℕ} → Files b p at zs ss rs k → (n m : ℕ) (o : Outstanding)
+    → Files b p at zs ss (set rs n (withOutstanding (withOpens (getD rs n noRow) m) o)) k
+files-beside none n m o = none
+files-beside (other e f g t) n m o = other e f g (files-beside t n m o)
+files-beside (file e a t) zero m o = file e (agrees-beside m o a) t
+files-beside (file e a t) (suc n) m o = file e a (files-beside t n m o)
 
 pub is-file : {b : ℕ} {p : ErrorPolicy} {z : DiskZone} {s : FileHistory} {r : Row} → Agrees b p z s r → holdsSeqFile z ≡ true
 is-file {z = z} a = both (ap (λ k. not (isConventional k)) (a .kind)) (lt-ltb 0 (z .start) (a .inner))

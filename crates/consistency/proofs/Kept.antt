@@ -1,9 +1,9 @@
 -- What is possible stays possible over each call and each completion.
 -- Assumes nothing.
-use Prim.Native.Nat.{ℕ, _<_}
+use Prim.Native.Nat.{ℕ, _≤_, _<_}
 use native.Mathlib.Omega.{arith}
 use mathlib.Core.Path.{_≡_, refl, sym, ap, _∙_, subst}
-use mathlib.Core.Bool.{Bool, true, false, cond}
+use mathlib.Core.Bool.{Bool, true, false, cond, false≢true}
 use mathlib.Core.List.{List}
 use lib.ListN.{length}
 use Rattle.types.specs.declared.Volume.{Volume}
@@ -15,6 +15,11 @@ use Rattle.types.specs.declared.FileKind.the-variants.{Conventional, Sequential
 use Rattle.types.specs.declared.Call.{Call}
 use Rattle.types.specs.declared.Command.{Command}
 use Rattle.types.specs.declared.Refusal.the-variants as refusal
+use Rattle.types.specs.declared.Access.{Access}
+use Rattle.types.specs.declared.Access.the-variants as access
+use Rattle.types.specs.declared.Verdict.{Verdict}
+use Rattle.types.specs.declared.Verdict.the-variants.{Passed}
+use Rattle.types.specs.declared.Verdict.the-variants as verdict
 use Rattle.types.specs.declared.Answer.{Answer}
 use Rattle.types.specs.declared.Answer.the-variants.{Refused, Done, Issue}
 use Rattle.types.specs.declared.Effect.{Effect}
@@ -25,54 +30,118 @@ use Rattle.types.specs.declared.Outstanding.the-variants.{Idle, Busy}
 use Rattle.types.specs.Codes.{kindFrom}
 use Rattle.types.specs.Effects.{refusing}
 use Rattle.types.specs.Kinds.{ofKind, filesOf}
+use Rattle.types.specs.Blocks.{mostFiles}
+use Rattle.types.specs.Verdicts.{answerAfter}
+use Rattle.types.proofs.PredicateLaws.{idle-is}
+use Rattle.types.proofs.VerdictLaws.{check-passed}
 use Rattle.types.proofs.Blocks.{IsBlock, is-block}
 use Rattle.table.specs.declared.Slot.{Slot}
 use Rattle.table.specs.declared.Slot.the-variants.{Good}
-use Rattle.table.specs.Rows.{rowsLent, rowAt, stored, withOutstanding, holding, cleared}
+use Rattle.table.specs.Rows.{rowsLent, rowAt, stored, withOutstanding, cleared}
 use Rattle.table.proofs.Stores.{stored-length, stored-row, of-stored}
 use Rattle.zones.specs.declared.Zone.{Zone}
-use Rattle.checks.specs.Checks.{soundRow}
+use Rattle.account.specs.Account.{accounted, counted}
+use Rattle.account.specs.Counts.{TrueCounts}
+use Rattle.account.proofs.Laws.{true-fits, true-counts}
+use Rattle.checks.specs.Checks.{countsFit, soundRow}
 use Rattle.checks.specs.Facts.{SoundRow, Reached}
-use Rattle.checks.proofs.Laws.{counts-good, row-sound, reached-lent, reached-sound}
-use Rattle.decision.proofs.Laws.{dispatch-passed}
+use Rattle.checks.proofs.Laws.{counts-good, counts-lent, counts-most, counts-in, row-sound, sound-openable, reached-lent, reached-sound}
+use Rattle.decision.specs.Decision.{unwritable, openRow, answerOn, dispatched, counts, opensAfter, called, limited}
+use Rattle.decision.proofs.Laws.{open-checked, dispatch-passed}
 use Rattle.calls.specs.Calls as calls
-use Rattle.calls.proofs.Laws.{call-cases, row-passed}
+use Rattle.calls.proofs.Laws.{call-cases, row-passed, effect-keeps, effect-stays}
 use Rattle.held.specs.declared.Pending.{Pending}
 use Rattle.held.specs.declared.Pending.the-variants as pending
-use Rattle.held.specs.Held.{issuable, pendingOf}
+use Rattle.held.specs.Held.{holdOf, pendingOf}
 use Rattle.held.specs.Facts.{Ready, PendingTells}
 use Rattle.held.proofs.Issuable.{issuable-complete, issuable-held}
 use Rattle.held.proofs.Issued.{Issued, issuable-tells}
 use Rattle.held.proofs.Laws.{pending-tells}
 use Rattle.recovery.specs.Success.{rowAfter}
 use Rattle.recovery.specs.Fits.{recordFits, misfit}
-use Rattle.recovery.specs.Recovery.{nothingLost, recoveredRow}
-use Rattle.completion.specs.Completions.{Completion, good, failed, malformed, succeeded, recovered, markedBy, failing, recovering, effectOn, effectPending}
+use Rattle.recovery.specs.Recovery.{nothingLost, recoveredRow, keptOpen}
+use Rattle.completion.specs.Completions.{Completion, good, failed, malformed, succeeded, recovered, failing, recovering, effectOn, effectPending}
 use Rattle.completion.specs.Completions as completions
-use Rattle.completion.proofs.Laws.{marked-fixes}
+use Rattle.completion.proofs.Laws as completed
 use Rattle.engine.specs.Engine.{State, Input, call, completion, effectOf, applied}
 use Rattle.engine.proofs.Laws.{call-by, completion-by}
-use Rattle.consistency.proofs.SoundRows.{success-sound, recovered-sound}
+use Rattle.consistency.proofs.SoundRows.{sound-opens, success-sound, recovered-sound}
 use Rattle.consistency.specs.Possible.{IsFile, HeldPossible, Possible}
 
 -- A FILE passes 10 (counts), 1 and 10 (row).
-pub possible-call : {s : State} → Possible s → (k : FileKind) (n : ℕ) → IsFile s k n → (r : Row) × Reached (s .mount .volume) (s .cnv) (s .seq) k n r
-possible-call p k n h = let w = p .rows k n h in (w .row, record { counts = p .counts; number = omega (arith, h); row = w .reads; sound = w .sound })
+file-counted : {s : State} → Possible s → (k : FileKind) (n : ℕ) (r : Row) → IsFile s k n → rowAt (ofKind k (s .cnv) (s .seq)) n ≡ Good r → counted (s .mount) k r ≡ true
+unfolding counted
+file-counted p Conventional n r h e = refl
+file-counted {s} p Sequential n r h e = true-counts (s .mount) (s .seq) (p .account) n r h e
+
+pub possible-call : {s : State} → Possible s → (k : FileKind) (n : ℕ) → IsFile s k n → (r : Row) × Reached (s .mount) (s .cnv) (s .seq) k n r
+possible-call p k n h =
+    let w = p .rows k n h in
+    (w .row, record { counts = p .counts; number = omega (arith, h); row = w .reads; sound = w .sound; counted = file-counted p k n (w .row) h (w .reads) })
 
 -- a row that was reached holds nothing that it can't
-pub held-reached : {s : State} → Possible s → (k : FileKind) (n : ℕ) (r : Row) → Reached (s .mount .volume) (s .cnv) (s .seq) k n r
-    → HeldPossible (s .mount .volume .block) k r (r .outstanding)
+pub held-reached : {s : State} → Possible s → (k : FileKind) (n : ℕ) (r : Row) → Reached (s .mount) (s .cnv) (s .seq) k n r
+    → HeldPossible (s .mount .volume) k r (r .outstanding)
 held-reached {s} p k n r w =
     let q = p .rows k n (w .number) in
     let g : Good (q .row) ≡ Good r = sym (q .reads) ∙ w .row in
     let same : q .row ≡ r = cc in
-    subst (λ (x : Row). HeldPossible (s .mount .volume .block) k x (x .outstanding)) same (q .held)
+    subst (λ (x : Row). HeldPossible (s .mount .volume) k x (x .outstanding)) same (q .held)
 
 -- so what is outstanding on it is ready for its completion
-pub possible-ready : {s : State} → Possible s → (k : FileKind) (n : ℕ) (c : Command) (r : Row) → Reached (s .mount .volume) (s .cnv) (s .seq) k n r
-    → r .outstanding ≡ Busy c → Ready (s .mount) (s .cnv) (s .seq) (record { kind = k; number = n; command = c }) r
+pub possible-ready : {s : State} → Possible s → (k : FileKind) (n : ℕ) (c : Command) (r : Row) → Reached (s .mount) (s .cnv) (s .seq) k n r
+    → r .outstanding ≡ Busy c → Ready (s .mount) (s .cnv) (s .seq) (holdOf k n c) r
 possible-ready {s} p k n c r w e =
-    record { held = e; reached = w; issued = subst (λ (o : Outstanding). HeldPossible (s .mount .volume .block) k r o) e (held-reached p k n r w) }
+    record { held = e; reached = w; issued = subst (λ (o : Outstanding). HeldPossible (s .mount .volume) k r o) e (held-reached p k n r w) }
+
+-- AN ANSWER THAT IS NO REFUSAL: its checks were passed
+abbrev Taken : Answer → Type 0
+Taken (Refused y) = ⊥
+Taken (Done count) = Unit
+Taken (Issue c) = Unit
+
+after-taken : (v : Verdict) (a : Answer) → Taken (answerAfter v a) → (v ≡ Passed) × Taken a
+unfolding answerAfter
+after-taken Passed a t = (refl, t)
+after-taken (verdict.Refused y) a t = absurd t
+
+limited-taken : (v : Verdict) (a : Answer) → Taken (limited v a) → Taken a
+unfolding limited
+limited-taken v (Refused y) t = t
+limited-taken v (Done count) t = tt
+limited-taken v (Issue c) t = tt
+
+row-taken : (m : Mount) (k : FileKind) (r : Row) (x : Call) → Taken (calls.onRow m k r x) → (r .outstanding ≡ Idle) × Taken (answerOn (m .volume .explicit) (m .volume .block) k r x)
+unfolding dispatched
+row-taken m k r x t =
+    let (free, rest) = after-taken _ _ t in
+    let (mark, on) = after-taken _ _ (limited-taken _ _ rest) in
+    (idle-is (r .outstanding) (check-passed _ free .0), on)
+
+-- opens only with write access: an open asks for it, and a close leaves fewer
+writable : (a : Access) → unwritable a ≡ false → a ≡ access.Write
+writable access.Nothing e = absurd (false≢true (sym e))
+writable access.Read e = absurd (false≢true (sym e))
+writable access.Write e = refl
+
+called-openable : (explicit : Bool) (block : ℕ) (k : FileKind) (r : Row) (x : Call) → (0 < r .opens → r .access ≡ access.Write) → Taken (answerOn explicit block k r x)
+    → 0 < opensAfter k x (r .opens) → r .access ≡ access.Write
+unfolding openRow
+called-openable explicit block k r (Call.Read o l) sure t h = sure h
+called-openable explicit block k r (Call.Write o l) sure t h = sure h
+called-openable explicit block k r (Call.Truncate z) sure t h = sure h
+called-openable explicit block k r Call.Flush sure t h = sure h
+called-openable explicit block Conventional r Call.Open sure t h = sure h
+called-openable explicit block Sequential r Call.Open sure t h = writable (r .access) (open-checked r (after-taken _ _ t .0) .0)
+called-openable explicit block Conventional r Call.Close sure t h = sure h
+called-openable explicit block Sequential r Call.Close sure t h = let some : 0 < r .opens = omega arith in sure some
+
+-- a call that is answered at once, and counts or doesn't
+abbrev pub answering : Mount → FileKind → ℕ → Row → Call → ℕ → Bool → Effect
+answering m k n r x count t = record {
+  outcome = record { answer = Done count; mount = cond t (accounted m k r (called k x r)) m };
+  store = cond t (store.Put k n (called k x r)) store.Nothing;
+}
 
 -- WHAT IS OUTSTANDING makes no row unsound.
 held-sound : (block : ℕ) (k : FileKind) (r : Row) (o : Outstanding) → soundRow block k (withOutstanding r o) ≡ soundRow block k r
@@ -80,16 +149,16 @@ unfolding soundRow
 held-sound block k r o = refl
 
 -- THE STATE after an effect. What is stored is a possible row of a file.
-abbrev Fine : ℕ → FileKind → Row → Type 0
-Fine block k r = (soundRow block k r ≡ true) × HeldPossible block k r (r .outstanding)
+abbrev Fine : Volume → FileKind → Row → Type 0
+Fine v k r = (soundRow (v .block) k r ≡ true) × HeldPossible v k r (r .outstanding)
 
 abbrev FineStore : Volume → Store → Type 0
 FineStore v store.Nothing = Unit
-FineStore v (store.Put k i r) = (i < filesOf k v) × Fine (v .block) k r
+FineStore v (store.Put k i r) = (i < filesOf k v) × Fine v k r
 
 -- a file's words are a possible row
 abbrev Rowed : Volume → FileKind → Slot → Type 0
-Rowed v k x = (r : Row) × ((x ≡ Good r) × Fine (v .block) k r)
+Rowed v k x = (r : Row) × ((x ≡ Good r) × Fine v k r)
 
 module _ {s : State} (p : Possible s) where
   fine-row : (k : FileKind) (n : ℕ) → IsFile s k n → Rowed (s .mount .volume) k (rowAt (ofKind k (s .cnv) (s .seq)) n)
@@ -97,7 +166,7 @@ module _ {s : State} (p : Possible s) where
 
   lent : (j k : FileKind) (i : ℕ) → i < filesOf j (s .mount .volume) → j ≡ k → i < rowsLent (length (ofKind k (s .cnv) (s .seq)))
   lent j k i known e =
-      let (r, w) = possible-call p k i (subst (λ y. i < filesOf y (s .mount .volume)) e known) in reached-lent (s .mount .volume) (s .cnv) (s .seq) k i r w
+      let (r, w) = possible-call p k i (subst (λ y. i < filesOf y (s .mount .volume)) e known) in reached-lent (s .mount) (s .cnv) (s .seq) k i r w
 
   fine-stored : (x : Store) → FineStore (s .mount .volume) x → (k : FileKind) (n : ℕ) → IsFile s k n
       → Rowed (s .mount .volume) k (rowAt (stored k x (ofKind k (s .cnv) (s .seq))) n)
@@ -105,35 +174,70 @@ module _ {s : State} (p : Possible s) where
   fine-stored (store.Put j i r) (known, fine) k n h =
       let v = s .mount .volume in
       stored-row (Rowed v k) j i r k n (ofKind k (s .cnv) (s .seq)) (lent j k i known)
-      (λ e q. (r, (refl, subst (λ y. Fine (v .block) y r) e fine))) (fine-row k n h)
+      (λ e q. (r, (refl, subst (λ y. Fine v y r) e fine))) (fine-row k n h)
 
-  -- a possible row is stored, and the mount fixes the same
-  settled-possible : (m : Mount) (x : Store) → m .volume ≡ s .mount .volume → FineStore (s .mount .volume) x
-      → Possible (record { mount = m; cnv = stored Conventional x (s .cnv); seq = stored Sequential x (s .seq) })
-  settled-possible m x e w =
-      let v = s .mount .volume in
+  -- what an effect leaves of the mount: what it fixes, and an account that is true
+  record Kept (d : Effect) : Type 0 where
+    volume : d .outcome .mount .volume ≡ s .mount .volume
+    account : TrueCounts (d .outcome .mount) (stored Sequential (d .store) (s .seq))
+
+  counts-again : (m : Mount) (t : List ℕ) → m .volume ≡ s .mount .volume → TrueCounts m t → countsFit m (length (s .cnv)) (length (s .seq)) ≡ true
+  counts-again m t e account =
+      let c = length (s .cnv) in
+      let q = length (s .seq) in
+      counts-in m c q (λ k. subst (λ (v : Volume). filesOf k v ≤ rowsLent (ofKind k c q)) (sym e) (counts-lent (s .mount) c q (p .counts) k))
+      (λ k. subst (λ (v : Volume). filesOf k v ≤ mostFiles) (sym e) (counts-most (s .mount) c q (p .counts) k)) (rw e (counts-good (s .mount) c q (p .counts))) (true-fits m t account)
+
+  -- and a possible row is stored
+  settled-possible : (d : Effect) → Kept d → FineStore (s .mount .volume) (d .store) → Possible (applied s d)
+  settled-possible d kept w =
+      let x = d .store in
+      let e = kept .volume in
       record {
-        counts = rw (e, stored-length Conventional x (s .cnv), stored-length Sequential x (s .seq)) (p .counts);
+        counts = rw (stored-length Conventional x (s .cnv), stored-length Sequential x (s .seq)) (counts-again (d .outcome .mount) _ e (kept .account));
+        account = kept .account;
         rows = λ k n h.
             let (r, (a, (b, c))) = fine-stored x w k n (subst (λ (u : Volume). n < filesOf k u) e h) in
             record { row = r; reads = ap (λ (t : List ℕ). rowAt t n) (of-stored k x (s .cnv) (s .seq)) ∙ a; sound = rw e b; held = rw e c };
       }
 
   -- A CALL. What it issues is held, and a completion finds it possible.
-  row-possible : (k : FileKind) (n : ℕ) (x : Call) (r : Row) (a : Answer) → Reached (s .mount .volume) (s .cnv) (s .seq) k n r → calls.onRow (s .mount) k r x ≡ a
-      → Possible (applied s (calls.settled (s .mount) k n r a))
-  row-possible k n x r (Refused y) w e = p
-  row-possible k n x r (Done count) w e = p
-  row-possible k n x r (Issue c) w e =
-      let b = s .mount .volume .block in
-      let (idle, g) = row-passed (s .mount) (s .cnv) (s .seq) k n x r c e in
-      let (mark, issued) = dispatch-passed (s .mount .readonly) b k r x c g in
-      settled-possible (s .mount) (store.Put k n (holding r c)) refl
-      (w .number, (held-sound b k r (Busy c) ∙ w .sound, issuable-held b k r (Busy c) c ∙ issuable-complete b k r x c issued))
+  module _ (k : FileKind) (n : ℕ) (x : Call) (r : Row) (w : Reached (s .mount) (s .cnv) (s .seq) k n r) where
+    abbrev v : Volume
+    v = s .mount .volume
+
+    -- the row that it leaves, with this outstanding
+    called-fine : (o : Outstanding) → Taken (calls.onRow (s .mount) k r x) → HeldPossible v k (withOutstanding (called k x r) o) o → FineStore v (store.Put k n (withOutstanding (called k x r) o))
+    called-fine o t h =
+        let s1 = reached-sound (s .mount) (s .cnv) (s .seq) k n r w in
+        let s2 = sound-opens s1 (opensAfter k x (r .opens)) (called-openable (v .explicit) (v .block) k r x (s1 .openable) (row-taken (s .mount) k r x t .1)) in
+        (w .number, (held-sound (v .block) k (called k x r) o ∙ row-sound (v .block) k (called k x r) s2, h))
+
+    row-possible : (a : Answer) → calls.onRow (s .mount) k r x ≡ a → Kept (calls.settled (s .mount) k n r x a) → Possible (applied s (calls.settled (s .mount) k n r x a))
+    row-possible (Refused y) e kept = p
+    row-possible (Done count) e kept = by (counts k x) kept
+      where
+        answered : Taken (calls.onRow (s .mount) k r x)
+        answered = subst Taken (sym e) tt
+
+        idle : HeldPossible v k (called k x r) (r .outstanding)
+        idle = subst (HeldPossible v k (called k x r)) (sym (row-taken (s .mount) k r x answered .0)) tt
+
+        by : (t : Bool) → Kept (answering (s .mount) k n r x count t) → Possible (applied s (answering (s .mount) k n r x count t))
+        by true kept = settled-possible _ kept (called-fine (r .outstanding) answered idle)
+        by false kept = p
+    row-possible (Issue c) e kept =
+        let (idle, (within, g)) = row-passed (s .mount) (s .cnv) (s .seq) k n x r c e in
+        let (mark, issued) = dispatch-passed (s .mount .readonly) (v .explicit) (v .block) k r x c g in
+        let sure = sound-openable (v .block) k r (w .sound) in
+        settled-possible _ kept
+        (called-fine (Busy c) (subst Taken (sym e) tt)
+        (issuable-held (v .explicit) (v .block) k (called k x r) (Busy c) c ∙ issuable-complete (v .explicit) (v .block) k r x c sure issued))
 
   pub call-possible : (k : FileKind) (n : ℕ) (x : Call) → Possible (applied s (calls.effectOf (s .mount) (s .cnv) (s .seq) k n x))
   call-possible k n x =
-      call-cases (s .mount) (s .cnv) (s .seq) k n x (λ d. Possible (applied s d)) (λ r w. row-possible k n x r (calls.onRow (s .mount) k r x) w refl) (λ y f. p)
+      call-cases (s .mount) (s .cnv) (s .seq) k n x (λ d. Kept d → Possible (applied s d)) (λ r w. row-possible k n x r w (calls.onRow (s .mount) k r x) refl) (λ y f kept. p)
+      (record { volume = effect-keeps (s .mount) (s .cnv) (s .seq) k n x .0 .0; account = effect-stays (s .mount) (s .cnv) (s .seq) k n x (p .account) })
 
   -- A COMPLETION. Its command is cleared, and its row stays sound.
   module _ (h : Held) (r : Row) (w : Ready (s .mount) (s .cnv) (s .seq) h r) where
@@ -141,52 +245,54 @@ module _ {s : State} (p : Possible s) where
     block = s .mount .volume .block
 
     on-block : IsBlock block
-    on-block = is-block block (counts-good (s .mount .volume) (length (s .cnv)) (length (s .seq)) (p .counts))
+    on-block = is-block block (counts-good (s .mount) (length (s .cnv)) (length (s .seq)) (p .counts))
 
     sound : SoundRow block (h .kind) r
-    sound = reached-sound (s .mount .volume) (s .cnv) (s .seq) (h .kind) (h .number) r (w .reached)
+    sound = reached-sound (s .mount) (s .cnv) (s .seq) (h .kind) (h .number) r (w .reached)
 
     issue : Issued block (h .kind) r (h .command)
-    issue = issuable-tells block (h .kind) r (h .command) (w .issued)
+    issue = issuable-tells (s .mount .volume .explicit) block (h .kind) r (h .command) (w .issued)
 
-    cleared-possible : (m : Mount) (q : Row) → m .volume ≡ s .mount .volume → SoundRow block (h .kind) q
-        → let x = store.Put (h .kind) (h .number) (cleared q) in Possible (record { mount = m; cnv = stored Conventional x (s .cnv); seq = stored Sequential x (s .seq) })
-    cleared-possible m q e u =
-        settled-possible m (store.Put (h .kind) (h .number) (cleared q)) e
-        (w .reached .number, (held-sound block (h .kind) q Idle ∙ row-sound block (h .kind) q u, tt))
+    cleared-fine : (q : Row) → SoundRow block (h .kind) q → FineStore (s .mount .volume) (store.Put (h .kind) (h .number) (cleared q))
+    cleared-fine q u = (w .reached .number, (held-sound block (h .kind) q Idle ∙ row-sound block (h .kind) q u, tt))
 
-    done-possible : Possible (applied s (succeeded (s .mount) h r))
+    done-possible : Kept (succeeded (s .mount) h r) → Possible (applied s (succeeded (s .mount) h r))
     unfolding succeeded
-    done-possible = cleared-possible (s .mount) (rowAfter (h .kind) (h .command) r) refl (success-sound (h .kind) on-block sound issue)
+    done-possible kept = settled-possible _ kept (cleared-fine (rowAfter (h .kind) (h .command) r) (success-sound (h .kind) on-block sound issue))
 
-    recovered-possible : (z : Zone) → recordFits block (h .kind) r z ≡ true → Possible (applied s (recovered (s .mount) h r z))
+    recovered-possible : (z : Zone) → recordFits block (h .kind) r z ≡ true → Kept (recovered (s .mount) h r z) → Possible (applied s (recovered (s .mount) h r z))
     unfolding recovered
-    recovered-possible z fits = by (nothingLost (h .kind) (h .command .kind) z (r .size))
+    recovered-possible z fits kept = by (nothingLost (h .kind) (h .command .kind) z (r .size)) kept
       where
-        new : Row
-        new = recoveredRow (s .mount .volume .policy) (h .kind) z r
+        by : (t : Bool) → let d = cond t (failing (s .mount) h r) (recovering (s .mount) h r (keptOpen (h .command .kind) (recoveredRow (s .mount .volume .policy) (h .kind) z r))) in
+            Kept d → Possible (applied s d)
+        by true kept = settled-possible _ kept (cleared-fine r sound)
+        by false kept =
+            settled-possible _ kept
+            (cleared-fine (keptOpen (h .command .kind) (recoveredRow (s .mount .volume .policy) (h .kind) z r))
+            (recovered-sound z sound (issue .readable) (s .mount .volume .policy) on-block fits (h .command .kind)))
 
-        by : (t : Bool) → Possible (applied s (cond t (failing (s .mount) h r) (recovering (s .mount) h new)))
-        by true = cleared-possible (s .mount) r refl sound
-        by false =
-            cleared-possible (markedBy (s .mount .volume .policy) (s .mount)) new (marked-fixes (s .mount .volume .policy) (s .mount))
-            (recovered-sound z sound (issue .readable) (s .mount .volume .policy) on-block fits)
-
-    effect-possible : (x : Completion) → Possible (applied s (effectOn (s .mount) h r x))
-    effect-possible good = done-possible
-    effect-possible (failed z) = by (recordFits block (h .kind) r z) refl
+    effect-possible : (x : Completion) → Kept (effectOn (s .mount) h r x) → Possible (applied s (effectOn (s .mount) h r x))
+    effect-possible good kept = done-possible kept
+    effect-possible (failed z) kept = by (recordFits block (h .kind) r z) refl kept
       where
-        by : (t : Bool) → recordFits block (h .kind) r z ≡ t → Possible (applied s (cond t (recovered (s .mount) h r z) (refusing (s .mount) (refusal.BadRecord (misfit block (h .kind) r z)))))
-        by true e = recovered-possible z e
-        by false e = p
-    effect-possible malformed = p
+        by : (t : Bool) → recordFits block (h .kind) r z ≡ t → let d = cond t (recovered (s .mount) h r z) (refusing (s .mount) (refusal.BadRecord (misfit block (h .kind) r z))) in
+            Kept d → Possible (applied s d)
+        by true e kept = recovered-possible z e kept
+        by false e kept = p
+    effect-possible malformed kept = p
 
   pub completion-possible : (k : FileKind) (n : ℕ) (x : Completion) → Possible (applied s (completions.effectOf (s .mount) (s .cnv) (s .seq) k n x))
-  completion-possible k n x = by (pendingOf (s .mount) (s .cnv) (s .seq) k n) (pending-tells (s .mount) (s .cnv) (s .seq) k n)
+  completion-possible k n x =
+      by (pendingOf (s .mount) (s .cnv) (s .seq) k n) (pending-tells (s .mount) (s .cnv) (s .seq) k n)
+      (record {
+        volume = completed.effect-fixes (s .mount) (s .cnv) (s .seq) k n x .0;
+        account = completed.effect-stays (s .mount) (s .cnv) (s .seq) k n x (p .account);
+      })
     where
-      by : (q : Pending) → PendingTells (s .mount) (s .cnv) (s .seq) k n q → Possible (applied s (effectPending (s .mount) q x))
-      by (pending.On h r) (w, named) = effect-possible h r w x
-      by (pending.Refused y) w = p
+      by : (q : Pending) → PendingTells (s .mount) (s .cnv) (s .seq) k n q → Kept (effectPending (s .mount) q x) → Possible (applied s (effectPending (s .mount) q x))
+      by (pending.On h r) (w, named) kept = effect-possible h r w x kept
+      by (pending.Refused y) w kept = p
 
   pub input-possible : (x : Input) → Possible (applied s (effectOf s x))
   input-possible (call kind n x) = call-by (s .mount) (s .cnv) (s .seq) (λ d. Possible (applied s d)) kind n x (λ e. call-possible (kindFrom kind) n x) p

@@ -20,18 +20,20 @@ use Rattle.report.proofs.Laws.{GoodReport, report-told, framed, zones-length}
 use Rattle.mount.specs.Mount.{fileZones, aggregated}
 use Rattle.mount.proofs.Leaves.{cnvs, seqs, Accepts, leaves}
 use Rattle.mount.proofs.Tables.{filled-row, fill-length}
+use Rattle.account.specs.Counts.{TrueCounts}
+use Rattle.account.proofs.Laws.{true-fits}
 use Rattle.checks.proofs.Laws.{counts-in, row-sound}
 use Rattle.engine.specs.Engine.{State, mounted}
 use Rattle.consistency.specs.Possible.{IsFile, HeldPossible, RowPossible, Possible}
 use Rattle.consistency.proofs.Bridge.{noRow}
 use Rattle.consistency.proofs.Rows.{AllSound, sound-nth, idle-nth, seq-rows-sound, cnv-rows-sound}
 
-module _ (block : ℕ) (superblock options report cnv seq : List ℕ) (t : Accepts block superblock options report cnv seq) where
+module _ (block : ℕ) (superblock options report : List ℕ) (openLimit activeLimit : ℕ) (cnv seq : List ℕ) (t : Accepts block superblock options report openLimit activeLimit cnv seq) where
   abbrev plain : List Row
-  plain = cnvs block superblock options report cnv seq
+  plain = cnvs block superblock options report openLimit activeLimit cnv seq
 
   abbrev written : List Row
-  written = seqs block superblock options report cnv seq
+  written = seqs block superblock options report openLimit activeLimit cnv seq
 
   told : GoodReport (blockSectors block) report
   told = report-told (blockSectors block) report (t .report)
@@ -50,16 +52,16 @@ module _ (block : ℕ) (superblock options report cnv seq : List ℕ) (t : Accep
   seq-sound = seq-rows-sound (is-block block (t .unit)) (zonesOf report) (told .zones)
 
   abbrev state : State
-  state = mounted (leaves block superblock options report cnv seq)
+  state = mounted (leaves block superblock options report openLimit activeLimit cnv seq)
 
-  nothing-held : (b : ℕ) (k : FileKind) (r : Row) (o : Outstanding) → o ≡ Idle → HeldPossible b k r o
-  nothing-held b k r o e = subst (HeldPossible b k r) (sym e) tt
+  nothing-held : (k : FileKind) (r : Row) (o : Outstanding) → o ≡ Idle → HeldPossible (state .mount .volume) k r o
+  nothing-held k r o e = subst (HeldPossible (state .mount .volume) k r) (sym e) tt
 
   rows : (k : FileKind) (n : ℕ) → IsFile state k n → RowPossible state k n
   rows Conventional n h =
-      record { row = getD plain n noRow; reads = filled-row cnv plain n noRow h (t .cnvFit); sound = row-sound block Conventional _ (sound-nth cnv-sound n noRow h); held = nothing-held block Conventional _ _ (idle-nth cnv-sound n noRow h) }
+      record { row = getD plain n noRow; reads = filled-row cnv plain n noRow h (t .cnvFit); sound = row-sound block Conventional _ (sound-nth cnv-sound n noRow h); held = nothing-held Conventional _ _ (idle-nth cnv-sound n noRow h) }
   rows Sequential n h =
-      record { row = getD written n noRow; reads = filled-row seq written n noRow h (t .seqFit); sound = row-sound block Sequential _ (sound-nth seq-sound n noRow h); held = nothing-held block Sequential _ _ (idle-nth seq-sound n noRow h) }
+      record { row = getD written n noRow; reads = filled-row seq written n noRow h (t .seqFit); sound = row-sound block Sequential _ (sound-nth seq-sound n noRow h); held = nothing-held Sequential _ _ (idle-nth seq-sound n noRow h) }
 
   lent : (k : FileKind) → filesOf k (state .mount .volume) ≤ rowsLent (ofKind k (length (state .cnv)) (length (state .seq)))
   lent Conventional = rw (fill-length cnv plain (t .cnvFit)) (t .cnvFit)
@@ -69,9 +71,10 @@ module _ (block : ℕ) (superblock options report cnv seq : List ℕ) (t : Accep
   few Conventional = omega (arith, zones-few, cnvs-few (aggregated superblock) (fileZones report))
   few Sequential = omega (arith, zones-few, seqs-few (fileZones report))
 
-  pub leaves-possible : Possible (mounted (leaves block superblock options report cnv seq))
-  leaves-possible =
+  pub leaves-possible : TrueCounts (state .mount) (state .seq) → Possible (mounted (leaves block superblock options report openLimit activeLimit cnv seq))
+  leaves-possible account =
       record {
-        counts = counts-in (state .mount .volume) (length (state .cnv)) (length (state .seq)) lent few (t .unit);
+        counts = counts-in (state .mount) (length (state .cnv)) (length (state .seq)) lent few (t .unit) (true-fits (state .mount) (state .seq) account);
+        account = account;
         rows = rows;
       }

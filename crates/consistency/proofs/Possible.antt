@@ -11,6 +11,8 @@ use Rattle.types.specs.Kinds.{filesOf}
 use Rattle.types.specs.Numbers.{answerNumber}
 use Rattle.mount.specs.Mount.{Mounting, mountOutcome}
 use Rattle.mount.proofs.Leaves.{accepts, mount-leaves}
+use Rattle.mount.proofs.Counted.{mount-true}
+use Rattle.account.specs.Counts.{TrueCounts}
 use Rattle.calls.specs.Calls as calls
 use Rattle.completion.specs.Completions as completions
 use Rattle.engine.specs.Engine.{State, mounted, Input, call, completion, step, run}
@@ -24,10 +26,12 @@ use Rattle.consistency.proofs.Replies.{file-ordinary, call-answer, comp
 -- A MOUNT ANSWERED 0 leaves what is possible.
 pub mounted-possible : MountedPossible
 unfolding MountedPossible
-mounted-possible block superblock options report cnv seq zeroed =
-    let t = accepts block superblock options report cnv seq zeroed in
-    subst (λ (o : Mounting). Possible (mounted o)) (sym (mount-leaves block superblock options report cnv seq t))
-    (leaves-possible block superblock options report cnv seq t)
+mounted-possible block superblock options report openLimit activeLimit cnv seq zeroed =
+    let t = accepts block superblock options report openLimit activeLimit cnv seq zeroed in
+    let left = mount-leaves block superblock options report openLimit activeLimit cnv seq t in
+    let account = mount-true block superblock options report openLimit activeLimit cnv seq zeroed in
+    subst (λ (o : Mounting). Possible (mounted o)) (sym left)
+    (leaves-possible block superblock options report openLimit activeLimit cnv seq t (subst (λ (o : Mounting). TrueCounts (o .mount) (o .seq)) left account))
 
 -- WHAT IS POSSIBLE STAYS POSSIBLE.
 pub stays-possible : StaysPossible
@@ -62,11 +66,11 @@ run-answers s (x ∷ xs) p = (never-impossible s x p, run-answers (step s x .sta
 
 pub run-never-impossible : RunNeverImpossible
 unfolding RunNeverImpossible MountedPossible
-run-never-impossible block superblock options report cnv seq zeroed inputs = run-answers _ inputs (mounted-possible block superblock options report cnv seq zeroed)
+run-never-impossible block superblock options report openLimit activeLimit cnv seq zeroed inputs = run-answers _ inputs (mounted-possible block superblock options report openLimit activeLimit cnv seq zeroed)
 
 pub run-finds-files : RunFindsFiles
 unfolding RunFindsFiles MountedPossible FilesAreFound
-run-finds-files block superblock options report cnv seq zeroed inputs x (is, h) =
-    let s = mounted (mountOutcome block superblock options report cnv seq) in
-    let p = run-possible s inputs (mounted-possible block superblock options report cnv seq zeroed) in
+run-finds-files block superblock options report openLimit activeLimit cnv seq zeroed inputs x (is, h) =
+    let s = mounted (mountOutcome block superblock options report openLimit activeLimit cnv seq) in
+    let p = run-possible s inputs (mounted-possible block superblock options report openLimit activeLimit cnv seq zeroed) in
     files-are-found (run s inputs .state) x p (is, subst (λ (v : Volume). numberIn x < filesOf (kindFrom (kindIn x)) v) (sym (run-fixes s inputs)) h)

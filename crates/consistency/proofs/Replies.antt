@@ -5,10 +5,12 @@ use native.Mathlib.Omega.{arith}
 use mathlib.Core.Path.{_≡_, refl, subst}
 use mathlib.Core.Logic.{_≢_}
 use mathlib.Core.Bool.{Bool, true, false, cond}
+use Rattle.types.specs.declared.Account.{Account}
 use Rattle.types.specs.declared.Mount.{Mount}
 use Rattle.types.specs.declared.Row.{Row}
 use Rattle.types.specs.declared.Held.{Held}
 use Rattle.types.specs.declared.FileKind.{FileKind}
+use Rattle.types.specs.declared.FileKind.the-variants.{Conventional, Sequential}
 use Rattle.types.specs.declared.Refusal.{Refusal}
 use Rattle.types.specs.declared.Refusal.the-variants as refusal
 use Rattle.types.specs.declared.Verdict.{Verdict}
@@ -22,16 +24,18 @@ use Rattle.types.specs.declared.Command.{Command}
 use Rattle.types.specs.Effects.{refusing}
 use Rattle.types.specs.Numbers.{verdictNumber, refusalNumber, answerNumber}
 use Rattle.types.specs.Verdicts.{refuse, answerAfter}
+use Rattle.account.specs.Account.{limitCheck}
 use Rattle.checks.specs.declared.Lookup.{Lookup}
 use Rattle.checks.specs.declared.Lookup.the-variants as lookup
 use Rattle.checks.specs.Checks.{lookupOf}
 use Rattle.checks.specs.Facts.{Reached}
 use Rattle.checks.proofs.Laws.{lookup-some, file-none}
-use Rattle.decision.specs.Decision.{atOnce, readChecks, readRow, writeChecks, writeRow, truncateRow, flushRow, answerOn, dispatched}
+use Rattle.decision.specs.Decision.{atOnce, readChecks, readRow, writeChecks, writeRow, truncateRow, flushRow, openChecks, openRow, closeRow, answerOn, dispatched, opensFile, called, limitsOf, limited}
 use Rattle.calls.specs.Calls as calls
 use Rattle.calls.proofs.Laws.{call-reached, settled-answer}
 use Rattle.recovery.specs.Fits.{recordFits, misfit}
-use Rattle.recovery.specs.Recovery.{nothingLost, recoveredRow}
+use Rattle.held.specs.Held.{holdOf}
+use Rattle.recovery.specs.Recovery.{nothingLost, recoveredRow, keptOpen}
 use Rattle.completion.specs.Completions.{Completion, good, failed, malformed, succeeded, recovered, failing, recovering, effectOn}
 use Rattle.completion.specs.Completions as completions
 use Rattle.completion.proofs.Laws.{effect-ready, effect-idle, effect-none}
@@ -75,7 +79,11 @@ unfolding atOnce
 once true c = record { found = λ e. omega arith; possible = λ e. omega arith }
 once false c = issued c
 
--- 4, 5 and 6 on a row
+-- a count, at once
+answered : (count : ℕ) → Ordinary (Done count)
+answered count = record { found = λ e. omega arith; possible = λ e. omega arith }
+
+-- 4, 5 and 6 on a row, and 13 and 14
 denied : {v : Verdict} (t : Bool) → Harmless v → Harmless (refuse t refusal.Denied v)
 denied t o = refused t refusal.Denied (λ e. omega arith) (λ e. omega arith) o
 
@@ -85,19 +93,47 @@ beyond t o = refused t refusal.BeyondCapacity (λ e. omega arith) (λ e. omega a
 misplaced : {v : Verdict} (t : Bool) → Harmless v → Harmless (refuse t refusal.Misplaced v)
 misplaced t o = refused t refusal.Misplaced (λ e. omega arith) (λ e. omega arith) o
 
+closed : {v : Verdict} (t : Bool) → Harmless v → Harmless (refuse t refusal.NotOpen v)
+closed t o = refused t refusal.NotOpen (λ e. omega arith) (λ e. omega arith) o
+
+crowded : {v : Verdict} (t : Bool) → Harmless v → Harmless (refuse t refusal.TooManyOpens v)
+crowded t o = refused t refusal.TooManyOpens (λ e. omega arith) (λ e. omega arith) o
+
 -- EACH CALL on its row, after 2 and 3
-row-ordinary : (block : ℕ) (k : FileKind) (r : Row) (x : Call) → Ordinary (answerOn block k r x)
-unfolding readRow readChecks writeRow writeChecks truncateRow flushRow
-row-ordinary block k r (Call.Read o n) = after (denied _ (beyond _ passed)) (once _ _)
-row-ordinary block k r (Call.Write o n) = after (denied _ (beyond _ (misplaced _ passed))) (once _ _)
-row-ordinary block k r (Call.Truncate t) = after (denied _ passed) (once _ _)
-row-ordinary block k r Call.Flush = after (denied _ passed) (issued _)
+row-ordinary : (explicit : Bool) (block : ℕ) (k : FileKind) (r : Row) (x : Call) → Ordinary (answerOn explicit block k r x)
+unfolding readRow readChecks writeRow writeChecks truncateRow flushRow openChecks openRow closeRow
+row-ordinary explicit block k r (Call.Read o n) = after (denied _ (beyond _ passed)) (once _ _)
+row-ordinary explicit block k r (Call.Write o n) = after (denied _ (closed _ (beyond _ (misplaced _ passed)))) (once _ _)
+row-ordinary explicit block k r (Call.Truncate t) = after (denied _ passed) (once _ _)
+row-ordinary explicit block k r Call.Flush = after (denied _ passed) (issued _)
+row-ordinary explicit block Conventional r Call.Open = answered 0
+row-ordinary explicit block Sequential r Call.Open = after (denied _ (crowded _ passed)) (once _ _)
+row-ordinary explicit block Conventional r Call.Close = answered 0
+row-ordinary explicit block Sequential r Call.Close = after (closed _ passed) (once _ _)
+
+-- 11 and 12
+limits-harmless : (explicit : Bool) (a : Account) (k : FileKind) (r : Row) (x : Call) → Harmless (limitsOf explicit a k r x)
+unfolding limitCheck
+limits-harmless explicit a k r x = by (opensFile k x)
+  where
+    by : (t : Bool) → Harmless (cond t (limitCheck explicit a r (called k x r)) verdict.Passed)
+    by true =
+        refused _ refusal.OpenLimit (λ e. omega arith) (λ e. omega arith)
+        (refused _ refusal.ActiveLimit (λ e. omega arith) (λ e. omega arith) passed)
+    by false = passed
+
+within : {v : Verdict} (a : Answer) → Harmless v → Ordinary a → Ordinary (limited v a)
+unfolding limited
+within (Refused y) o p = p
+within (Done count) o p = after o p
+within (Issue c) o p = after o p
 
 call-ordinary : (m : Mount) (k : FileKind) (r : Row) (x : Call) → Ordinary (calls.onRow m k r x)
 unfolding dispatched
 call-ordinary m k r x =
     after (refused _ refusal.Busy (λ e. omega arith) (λ e. omega arith) passed)
-    (after (refused _ refusal.ReadOnlyMount (λ e. omega arith) (λ e. omega arith) passed) (row-ordinary (m .volume .block) k r x))
+    (within _ (limits-harmless (m .volume .explicit) (m .account) k r x)
+    (after (refused _ refusal.ReadOnlyMount (λ e. omega arith) (λ e. omega arith) passed) (row-ordinary (m .volume .explicit) (m .volume .block) k r x)))
 
 -- FROM WHAT IS POSSIBLE
 
@@ -108,10 +144,10 @@ ready-answer m h r good = record { found = λ q. omega arith; possible = λ q. o
 ready-answer m h r (failed z) = by (recordFits (m .volume .block) (h .kind) r z) (nothingLost (h .kind) (h .command .kind) z (r .size))
   where
     new : Row
-    new = recoveredRow (m .volume .policy) (h .kind) z r
+    new = keptOpen (h .command .kind) (recoveredRow (m .volume .policy) (h .kind) z r)
 
     by : (fits kept : Bool)
-        → Ordinary (cond fits (cond kept (failing m h r) (recovering m h new)) (refusing m (refusal.BadRecord (misfit (m .volume .block) (h .kind) r z))) .outcome .answer)
+        → Ordinary (cond fits (cond kept (failing m h r) (recovering m h r new)) (refusing m (refusal.BadRecord (misfit (m .volume .block) (h .kind) r z))) .outcome .answer)
     by false kept = record { found = λ q. omega arith; possible = λ q. omega arith }
     by true false = record { found = λ q. omega arith; possible = λ q. omega arith }
     by true true = record { found = λ q. omega arith; possible = λ q. omega arith }
@@ -130,16 +166,16 @@ module _ {s : State} (p : Possible s) where
     where
       by : (y : Lookup) → lookupOf (s .mount .volume) (s .cnv) (s .seq) k n ≡ y → answerNumber (calls.effectOf (s .mount) (s .cnv) (s .seq) k n x .outcome .answer) ≢ impossible
       by (lookup.Found y) e = file-ordinary k n x (lookup-some (s .mount .volume) (s .cnv) (s .seq) k n y e) .possible
-      by lookup.Nothing e = rw (file-none (s .mount .volume) (s .cnv) (s .seq) k n (p .counts) e) (λ q. omega arith)
+      by lookup.Nothing e = rw (file-none (s .mount) (s .cnv) (s .seq) k n (p .counts) e) (λ q. omega arith)
 
   -- a completion of a file's command
-  file-answer : (k : FileKind) (n : ℕ) (x : Completion) (r : Row) → Reached (s .mount .volume) (s .cnv) (s .seq) k n r → (o : Outstanding) → r .outstanding ≡ o
+  file-answer : (k : FileKind) (n : ℕ) (x : Completion) (r : Row) → Reached (s .mount) (s .cnv) (s .seq) k n r → (o : Outstanding) → r .outstanding ≡ o
       → Ordinary (completions.effectOf (s .mount) (s .cnv) (s .seq) k n x .outcome .answer)
   file-answer k n x r w Idle e =
       rw (effect-idle (s .mount) (s .cnv) (s .seq) k n r x w e) (record { found = λ q. omega arith; possible = λ q. omega arith })
   file-answer k n x r w (Busy c) e =
-      rw (effect-ready (s .mount) (s .cnv) (s .seq) k n c r x (possible-ready p k n c r w e)) (ready-answer (s .mount) (record { kind = k; number = n; command = c }) r x)
-  file-answer k n x r w Unknown e = absurd (subst (HeldPossible (s .mount .volume .block) k r) e (held-reached p k n r w))
+      rw (effect-ready (s .mount) (s .cnv) (s .seq) k n c r x (possible-ready p k n c r w e)) (ready-answer (s .mount) (holdOf k n c) r x)
+  file-answer k n x r w Unknown e = absurd (subst (HeldPossible (s .mount .volume) k r) e (held-reached p k n r w))
 
   pub completion-ordinary : (k : FileKind) (n : ℕ) (x : Completion) → IsFile s k n → Ordinary (completions.effectOf (s .mount) (s .cnv) (s .seq) k n x .outcome .answer)
   completion-ordinary k n x h = let (r, w) = possible-call p k n h in file-answer k n x r w (r .outstanding) refl

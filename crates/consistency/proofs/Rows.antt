@@ -49,6 +49,7 @@ file-sound {sectors = sectors} k true block l s plain =
       none = λ e. let x : _≡_ {A = ℕ} 0 1 = cc in absurd (omega arith);
       readonly = λ e f. let x : _≡_ {A = ℕ} 0 1 = cc in omega arith;
       full = λ e n. plain e;
+      openable = λ e. refl;
     }
 file-sound {b} {sectors = sectors} k false block l s plain =
     record {
@@ -63,6 +64,7 @@ file-sound {b} {sectors = sectors} k false block l s plain =
       none = λ e. refl;
       readonly = λ e f. let x : _≡_ {A = ℕ} 0 1 = cc in omega arith;
       full = λ e n. absurd (n refl);
+      openable = λ e. absurd (omega arith);
     }
 
 -- A ZONE that is good input, past zone 0

@@ -6,7 +6,7 @@ use Rattle.types.specs.declared.ErrorPolicy.{ErrorPolicy}
 use Rattle.types.specs.Stated.{Case, AsStated}
 use Rattle.mount.specs.Mount.{Mounting}
 use Rattle.consistency.specs.Cases.{Setting, mountUnder}
-use Rattle.consistency.specs.Runs.{commandRuns, mishapRuns, exceptionRuns, fullRuns, otherRuns, busyRuns, Runs}
+use Rattle.consistency.specs.Runs.{commandRuns, mishapRuns, exceptionRuns, fullRuns, otherRuns, busyRuns, openRuns, Runs}
 use Rattle.consistency.proofs.Computed.{mountGives, mount-computed, report-shown, computed}
 
 same-mounts : mountUnder ≡ mountGives
@@ -25,4 +25,5 @@ small-runs = record {
   full = from-computed fullRuns (computed .full);
   others = from-computed otherRuns (computed .others);
   busy = from-computed busyRuns (computed .busy);
+  opens = from-computed openRuns (computed .opens);
 }

@@ -26,7 +26,7 @@ writtenTo z = (z .pointer - z .start) * 512
 
 -- a healthy file's row, or one kept as offline
 abbrev pub rowBy : Bool → ℕ → ℕ → ℕ → Row
-rowBy t s c n = record { start = s; capacity = c; size = cond t n 0; condition = cond t Healthy Offline; access = cond t Access.Write Access.Nothing; outstanding = Idle }
+rowBy t s c n = record { start = s; capacity = c; size = cond t n 0; condition = cond t Healthy Offline; access = cond t Access.Write Access.Nothing; outstanding = Idle; opens = 0 }
 
 abbrev pub shownRow : DiskZone → Row
 shownRow z = rowBy (isHealthy (z .condition)) (z .start) (z .capacity * 512) (writtenTo z)

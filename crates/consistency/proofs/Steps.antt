@@ -25,19 +25,21 @@ use Rattle.types.specs.Kinds.{ofKind, filesOf}
 use Rattle.types.proofs.Tests.{and-left, and-right}
 use Rattle.types.proofs.Blocks.{IsBlock}
 use Rattle.table.specs.declared.Slot.the-variants.{Good}
-use Rattle.table.specs.Rows.{rowAt, stored, withOutstanding, cleared}
+use Rattle.table.specs.Rows.{rowAt, stored, withOutstanding, withOpens, cleared}
 use Rattle.checks.specs.declared.Lookup.{Lookup}
 use Rattle.checks.specs.declared.Lookup.the-variants as lookup
 use Rattle.checks.specs.Checks.{lookupOf}
 use Rattle.checks.specs.Facts.{Reached}
 use Rattle.checks.proofs.Laws.{lookup-some, reached-lent, reached-sound}
 use Rattle.calls.specs.Calls as calls
-use Rattle.calls.proofs.Laws.{call-cases}
+use Rattle.calls.proofs.Laws.{call-cases, effect-keeps}
+use Rattle.decision.specs.Decision.{counts, opensAfter, called}
 use Rattle.zones.specs.declared.Zone.{Zone}
 use Rattle.zones.specs.Zone.{zoneBytes, zoneAt}
 use Rattle.types.specs.declared.Effect.{Effect}
 use Rattle.recovery.specs.Fits.{recordFits}
-use Rattle.recovery.specs.Recovery.{nothingLost, recoveredRow}
+use Rattle.recovery.specs.Recovery.{nothingLost, recoveredRow, keptOpen}
+use Rattle.held.specs.Held.{holdOf}
 use Rattle.held.specs.Facts.{Ready}
 use Rattle.completion.specs.Completions.{Completion, failed, completionOf, completionBy, effectOf}
 use Rattle.completion.proofs.Laws.{effect-idle, effect-none, effect-fixes}
@@ -47,9 +49,9 @@ use Rattle.engine.specs.Engine.{applied}
 use Rattle.engine.specs.Engine as engine
 use Rattle.engine.proofs.Laws.{call-by, completion-by}
 use Rattle.consistency.specs.Possible.{Possible}
-use Rattle.consistency.proofs.Kept.{possible-call, possible-ready, call-possible, completion-possible}
+use Rattle.consistency.proofs.Kept.{possible-call, possible-ready, answering, call-possible, completion-possible}
 use Rattle.consistency.proofs.Busy.{row-on, busy-known, busy-kind, kind-on, completion-on}
-use Rattle.consistency.proofs.Agrees.{agrees-held}
+use Rattle.consistency.proofs.Agrees.{agrees-beside}
 use Rattle.disk.specs.Shows.{showsRecord}
 use Rattle.disk.specs.Facts.{ShowsRecord}
 use Rattle.disk.proofs.Shows.{record-told}
@@ -59,9 +61,9 @@ use Rattle.consistency.proofs.Mishaps.{keeps-mishap}
 use Rattle.held.proofs.Issued.{Within, Issued, issuable-tells}
 use Rattle.consistency.proofs.Doings.{completedRow, keeps-command}
 use Rattle.consistency.proofs.Bridge.{noRow, Listed, set-became, listed-became}
-use Rattle.consistency.proofs.Files.{Files, Own, own, alter, files-held, Inside, inside-moved, Covers, covers-set, covers-same, set-keeps, kinds-differ, kinds, kinds-set}
+use Rattle.consistency.proofs.Files.{Files, Own, own, alter, files-beside, Inside, inside-moved, Covers, covers-set, covers-same, set-keeps, kinds-differ, kinds, kinds-set}
 use Rattle.consistency.proofs.Fits.{report-fits, inside-fits}
-use Rattle.consistency.proofs.Effects.{holdOf, Completed, good-completed, failed-completed}
+use Rattle.consistency.proofs.Effects.{Completed, good-completed, failed-completed}
 
 -- THE INVARIANT
 pub record Invariant (v : Volume) (ks : List FileKind) (w : System) : Type 0 where
@@ -84,39 +86,39 @@ listed-row r Sequential n h = r .listed .row n h
 
 -- and passes 10 and 1
 row-reached : {v : Volume} {ks : List FileKind} {w : System} (r : Invariant v ks w) (k : FileKind) (n : ℕ) → n < filesOf k (w .state .mount .volume)
-    → Reached (w .state .mount .volume) (w .state .cnv) (w .state .seq) k n (getD (ofKind k (r .plain) (r .rows)) n noRow)
+    → Reached (w .state .mount) (w .state .cnv) (w .state .seq) k n (getD (ofKind k (r .plain) (r .rows)) n noRow)
 row-reached {w = w} r k n h =
     let (q, x) = possible-call (r .possible) k n h in
     let g : Good q ≡ Good (getD (ofKind k (r .plain) (r .rows)) n noRow) = sym (x .row) ∙ listed-row r k n h in
     let same : q ≡ getD (ofKind k (r .plain) (r .rows)) n noRow = cc in
-    subst (Reached (w .state .mount .volume) (w .state .cnv) (w .state .seq) k n) same x
+    subst (Reached (w .state .mount) (w .state .cnv) (w .state .seq) k n) same x
 
--- A CALL leaves what the mount fixes, and of the rows all but what is outstanding on one.
+-- A CALL leaves what the mount fixes, and of the rows all but what is outstanding on one, and its opens.
 module _ {v : Volume} {ks : List FileKind} {w : System} (r : Invariant v ks w) where
   abbrev After : Effect → Type 0
   After d = Invariant v ks (record { state = applied (w .state) d; disk = w .disk; histories = w .histories })
 
-  -- a row is stored on which something else is outstanding
-  held-stored : (k : FileKind) (n : ℕ) (o : Outstanding) (d : Effect) → n < filesOf k (w .state .mount .volume) → d .outcome .mount ≡ w .state .mount
-      → d .store ≡ store.Put k n (withOutstanding (getD (ofKind k (r .plain) (r .rows)) n noRow) o) → Possible (applied (w .state) d) → After d
-  held-stored Sequential n o d h same put possible =
-      let q = withOutstanding (getD (r .rows) n noRow) o in
-      let lent = reached-lent (w .state .mount .volume) (w .state .cnv) (w .state .seq) Sequential n (getD (r .rows) n noRow) (row-reached r Sequential n h) in
+  -- a row is stored with other opens, on which something else is outstanding
+  beside-stored : (k : FileKind) (n m : ℕ) (o : Outstanding) (d : Effect) → n < filesOf k (w .state .mount .volume) → d .outcome .mount .volume ≡ w .state .mount .volume
+      → d .store ≡ store.Put k n (withOutstanding (withOpens (getD (ofKind k (r .plain) (r .rows)) n noRow) m) o) → Possible (applied (w .state) d) → After d
+  beside-stored Sequential n m o d h same put possible =
+      let q = withOutstanding (withOpens (getD (r .rows) n noRow) m) o in
+      let lent = reached-lent (w .state .mount) (w .state .cnv) (w .state .seq) Sequential n (getD (r .rows) n noRow) (row-reached r Sequential n h) in
       record {
         same = rw same (r .same);
         block = rw same (r .block);
         zones = r .zones;
         rows = set (r .rows) n q;
         listed = rw (same, put) (listed-became (r .listed) h (set-became (w .state .seq) n q lent));
-        files = rw same (files-held (r .files) n o);
+        files = rw same (files-beside (r .files) n m o);
         plain = r .plain;
         plainly = rw (same, put) (r .plainly);
         covers = rw same (r .covers);
         possible = possible;
       }
-  held-stored Conventional n o d h same put possible =
-      let q = withOutstanding (getD (r .plain) n noRow) o in
-      let lent = reached-lent (w .state .mount .volume) (w .state .cnv) (w .state .seq) Conventional n (getD (r .plain) n noRow) (row-reached r Conventional n h) in
+  beside-stored Conventional n m o d h same put possible =
+      let q = withOutstanding (withOpens (getD (r .plain) n noRow) m) o in
+      let lent = reached-lent (w .state .mount) (w .state .cnv) (w .state .seq) Conventional n (getD (r .plain) n noRow) (row-reached r Conventional n h) in
       record {
         same = rw same (r .same);
         block = rw same (r .block);
@@ -126,23 +128,31 @@ module _ {v : Volume} {ks : List FileKind} {w : System} (r : Invariant v ks w) w
         files = rw same (r .files);
         plain = set (r .plain) n q;
         plainly = rw (same, put) (listed-became (r .plainly) h (set-became (w .state .cnv) n q lent));
-        covers = rw same (λ m l. set-keeps (λ x. Covers (w .state .mount .volume .block) (w .disk) x) noRow (r .plain) n m q (λ u. covers-same refl refl u) (r .covers m l));
+        covers = rw same (λ j l. set-keeps (λ x. Covers (w .state .mount .volume .block) (w .disk) x) noRow (r .plain) n j q (λ u. covers-same refl refl u) (r .covers j l));
         possible = possible;
       }
 
-  row-called : (k : FileKind) (n : ℕ) (q : Row) (a : Answer) → n < filesOf k (w .state .mount .volume) → q ≡ getD (ofKind k (r .plain) (r .rows)) n noRow
-      → Possible (applied (w .state) (calls.settled (w .state .mount) k n q a)) → After (calls.settled (w .state .mount) k n q a)
-  row-called k n q (Refused y) h e p = r
-  row-called k n q (Done count) h e p = r
-  row-called k n q (Issue c) h e p =
-      held-stored k n (Busy c) (calls.settled (w .state .mount) k n q (Issue c)) h refl (ap (λ (x : Row). store.Put k n (withOutstanding x (Busy c))) e) p
+  -- what a call does to its row
+  module _ (k : FileKind) (n : ℕ) (x : Call) (q : Row) (h : n < filesOf k (w .state .mount .volume)) (e : q ≡ getD (ofKind k (r .plain) (r .rows)) n noRow) where
+    beside : (o : Outstanding) → store.Put k n (withOutstanding (called k x q) o) ≡ store.Put k n (withOutstanding (withOpens (getD (ofKind k (r .plain) (r .rows)) n noRow) (opensAfter k x (q .opens))) o)
+    beside o = ap (λ (y : Row). store.Put k n (withOutstanding (withOpens y (opensAfter k x (q .opens))) o)) e
+
+    row-called : (a : Answer) → let d = calls.settled (w .state .mount) k n q x a in d .outcome .mount .volume ≡ w .state .mount .volume → Possible (applied (w .state) d) → After d
+    row-called (Refused y) same p = r
+    row-called (Done count) same p = by (counts k x) same p
+      where
+        by : (t : Bool) → let d = answering (w .state .mount) k n q x count t in d .outcome .mount .volume ≡ w .state .mount .volume → Possible (applied (w .state) d) → After d
+        by true same p = beside-stored k n (opensAfter k x (q .opens)) (q .outstanding) (answering (w .state .mount) k n q x count true) h same (beside (q .outstanding)) p
+        by false same p = r
+    row-called (Issue c) same p = beside-stored k n (opensAfter k x (q .opens)) (Busy c) (calls.settled (w .state .mount) k n q x (Issue c)) h same (beside (Busy c)) p
 
   file-called : (k : FileKind) (n : ℕ) (x : Call) → After (calls.effectOf (w .state .mount) (w .state .cnv) (w .state .seq) k n x)
   file-called k n x =
-      call-cases (w .state .mount) (w .state .cnv) (w .state .seq) k n x (λ d. Possible (applied (w .state) d) → After d)
-      (λ q u. row-called k n q (calls.onRow (w .state .mount) k q x) (u .number)
-      (let g : Good q ≡ Good (getD (ofKind k (r .plain) (r .rows)) n noRow) = sym (u .row) ∙ listed-row r k n (u .number) in cc))
-      (λ y f p. r) (call-possible (r .possible) k n x)
+      call-cases (w .state .mount) (w .state .cnv) (w .state .seq) k n x (λ d. d .outcome .mount .volume ≡ w .state .mount .volume → Possible (applied (w .state) d) → After d)
+      (λ q u. row-called k n x q (u .number)
+      (let g : Good q ≡ Good (getD (ofKind k (r .plain) (r .rows)) n noRow) = sym (u .row) ∙ listed-row r k n (u .number) in cc)
+      (calls.onRow (w .state .mount) k q x))
+      (λ y f same p. r) (effect-keeps (w .state .mount) (w .state .cnv) (w .state .seq) k n x .0 .0) (call-possible (r .possible) k n x)
 
   invariant-call : (kind n : ℕ) (x : Call) → Invariant v ks (step w (call kind n x))
   unfolding step engine.step
@@ -198,7 +208,7 @@ unfolding recoveredRow
 plain-in-place true p c z r = (refl, refl)
 plain-in-place false p c z r = by (nothingLost Conventional (c .kind) z (r .size))
   where
-    by : (t : Bool) → InPlace r (cond t r (recoveredRow p Conventional z r))
+    by : (t : Bool) → InPlace r (cond t r (keptOpen (c .kind) (recoveredRow p Conventional z r)))
     by true = (refl, refl)
     by false = (refl, refl)
 
@@ -222,10 +232,10 @@ module _ {v : Volume} {ks : List FileKind} {w : System} (r : Invariant v ks w) (
   ready = possible-ready (r .possible) k n c row (row-reached r k n known) (sym (row-on (w .state) k n row known (listed-row r k n known)) ∙ e)
 
   pub issue : Issued (w .state .mount .volume .block) k row c
-  issue = issuable-tells (w .state .mount .volume .block) k row c (ready .issued)
+  issue = issuable-tells (w .state .mount .volume .explicit) (w .state .mount .volume .block) k row c (ready .issued)
 
   pub lies : Within row (c .address)
-  lies = issue .within (reached-sound (w .state .mount .volume) (w .state .cnv) (w .state .seq) k n row (ready .reached) .roomy)
+  lies = issue .within (reached-sound (w .state .mount) (w .state .cnv) (w .state .seq) k n row (ready .reached) .roomy)
 
   module _ (o : Choice) where
     abbrev done : Performed
@@ -299,9 +309,9 @@ module _ {v : Volume} {ks : List FileKind} {w : System} (r : Invariant v ks w) (
       seq-completed = completed r Sequential n c e o given bytes (λ f. told f .long) (λ f. report-fits (r .block) (owns e .agrees) c (issue r Sequential n c e) o (zoneAt given bytes 0) f (told f .shows))
 
       invariant-seq : Invariant v ks (settledIn w c (performIn w c o) (applied (w .state) (effectOf (w .state .mount) (w .state .cnv) (w .state .seq) Sequential n answer)))
-      invariant-seq = invariant-settled r Sequential n c e o (effectOf (w .state .mount) (w .state .cnv) (w .state .seq) Sequential n answer) (set (r .rows) n (new r Sequential n c e o given bytes)) (r .plain) (effect-fixes (w .state .mount) (w .state .cnv) (w .state .seq) Sequential n answer)
+      invariant-seq = invariant-settled r Sequential n c e o (effectOf (w .state .mount) (w .state .cnv) (w .state .seq) Sequential n answer) (set (r .rows) n (new r Sequential n c e o given bytes)) (r .plain) (effect-fixes (w .state .mount) (w .state .cnv) (w .state .seq) Sequential n answer .0)
           (listed-became (r .listed) (known r Sequential n c e) (seq-completed .here))
-          (owns e .put _ _ _ (start-kept _ _ _ c o) (length-kept _ _ _ c o) (agrees-held Idle (keeps-command (r .block) (owns e .agrees) c (issue r Sequential n c e) o (zoneAt given bytes 0) (λ f. told f .shows))))
+          (owns e .put _ _ _ (start-kept _ _ _ c o) (length-kept _ _ _ c o) (agrees-beside _ Idle (keeps-command (r .block) (owns e .agrees) c (issue r Sequential n c e) o (zoneAt given bytes 0) (λ f. told f .shows))))
           (rw (seq-completed .other Conventional (w .state .cnv) (λ q. kinds-differ (sym q))) (r .plainly))
           (covers-after r Sequential n c e o)
           (completion-possible (r .possible) Sequential n answer)
@@ -313,7 +323,7 @@ module _ {v : Volume} {ks : List FileKind} {w : System} (r : Invariant v ks w) (
       cnv-completed = completed r Conventional n c e o given bytes (λ f. told f .long) (λ f. inside-fits (stood e) (told f .shows))
 
       invariant-cnv : Invariant v ks (settledIn w c (performIn w c o) (applied (w .state) (effectOf (w .state .mount) (w .state .cnv) (w .state .seq) Conventional n answer)))
-      invariant-cnv = invariant-settled r Conventional n c e o (effectOf (w .state .mount) (w .state .cnv) (w .state .seq) Conventional n answer) (r .rows) (set (r .plain) n (new r Conventional n c e o given bytes)) (effect-fixes (w .state .mount) (w .state .cnv) (w .state .seq) Conventional n answer)
+      invariant-cnv = invariant-settled r Conventional n c e o (effectOf (w .state .mount) (w .state .cnv) (w .state .seq) Conventional n answer) (r .rows) (set (r .plain) n (new r Conventional n c e o given bytes)) (effect-fixes (w .state .mount) (w .state .cnv) (w .state .seq) Conventional n answer .0)
           (rw (cnv-completed .other Sequential (w .state .seq) kinds-differ) (r .listed))
           (alter (r .files) _ _ _ (start-kept _ _ _ c o) (length-kept _ _ _ c o) (file-kept _ _ _ c o) (λ s. stood e .sound) (λ x a. absurd (kinds-differ (sym (stands e .kind) ∙ a .kind))))
           (listed-became (r .plainly) (known r Conventional n c e) (cnv-completed .here))

@@ -15,7 +15,7 @@ use Rattle.types.specs.declared.FileKind.the-variants.{Conventional, Sequential
 use Rattle.types.specs.declared.Condition.{Condition}
 use Rattle.types.specs.declared.Condition.the-variants.{Healthy, ReadOnly, Offline}
 use Rattle.types.specs.declared.ErrorPolicy.{ErrorPolicy}
-use Rattle.types.specs.Commands.{movementOf, isRead}
+use Rattle.types.specs.Commands.{movementOf, isRead, opensOrCloses}
 use Rattle.types.specs.Predicates.{isHealthy, isNone}
 use Rattle.types.proofs.Tests.{and-left, and-right}
 use Rattle.types.proofs.Blocks.{IsBlock, small, large}
@@ -29,7 +29,7 @@ use Rattle.disk.proofs.SoundZone.{sound-moved}
 use Rattle.consistency.proofs.Shown.{writtenTo, fresh-size}
 use Rattle.consistency.proofs.Agrees.{Agrees, Live, live, size-last, row-last}
 use Rattle.held.proofs.Issued.{Issued, Placed}
-use Rattle.consistency.proofs.Moves.{read-stays}
+use Rattle.consistency.proofs.Moves.{read-stays, opening-stays}
 
 -- the last size at a point: v, which a fresh mount gives where the file is quiet and its zone healthy, and which it was before elsewhere
 last-at : (q : Bool) (h : Condition) (f old v : ℕ) → (q ≡ true → h ≡ Healthy → v ≡ f) → (q && isHealthy h ≡ false → v ≡ old) → cond (q && isHealthy h) (cond (isHealthy h) f 0) old ≡ v
@@ -113,7 +113,21 @@ module _ {b : ℕ} {p : ErrorPolicy} {z : DiskZone} {s : FileHistory} {r : Row} 
     keeps-by c ToEnd false still i g = keeps-move _ (or-true (s .quiet)) g (z .start + z .capacity) (r .capacity)
         (at-end block z (a .sound .base) (a .sound .whole)) (omega (arith, a .capacity))
 
+    -- an open or a close, which moves nothing and counts as a good read
+    keeps-opening : (c : Command) (v : Movement) → v ≡ Stays
+        → let new = moved z (pointerAfter z v (c .length)) (z .condition) in Agrees b p new (updated s new (s .quiet || false) (s .recovered)) (withSize r (sizeAfter Sequential v (c .length) r))
+    keeps-opening c Stays e = keeps-still _ (λ t. cc (or-false (s .quiet)))
+    keeps-opening c Advances e = let x : _≡_ {A = ℕ} 0 1 = cc in absurd (omega arith)
+    keeps-opening c ToStart e = let x : _≡_ {A = ℕ} 0 1 = cc in absurd (omega arith)
+    keeps-opening c ToEnd e = let x : _≡_ {A = ℕ} 0 1 = cc in absurd (omega arith)
+
   pub keeps-success : (c : Command) → Issued b Sequential r c → allows (s .quiet) z c ≡ true
       → let new = moved z (pointerAfter z (movementOf (c .kind)) (c .length)) (z .condition) in Agrees b p new (afterSuccess s c new) (rowAfter Sequential c r)
   unfolding afterSuccess allows
-  keeps-success c i g = keeps-by (i .readable) c (movementOf (c .kind)) (isRead (c .kind)) (read-stays (c .kind)) (i .placed refl) g
+  keeps-success c i g = by (opensOrCloses (c .kind)) refl g
+    where
+      by : (t : Bool) → opensOrCloses (c .kind) ≡ t → cond t (isHealthy (z .condition)) (allowsBy (movementOf (c .kind)) (isRead (c .kind)) (s .quiet) z (c .address)) ≡ true
+          → let new = moved z (pointerAfter z (movementOf (c .kind)) (c .length)) (z .condition) in
+          Agrees b p new (updated s new (s .quiet || not (isRead (c .kind) || t)) (s .recovered)) (rowAfter Sequential c r)
+      by true e g = rw (or-true (isRead (c .kind))) (keeps-opening (i .readable) c (movementOf (c .kind)) (opening-stays (c .kind) e))
+      by false e g = rw (or-false (isRead (c .kind))) (keeps-by (i .readable) c (movementOf (c .kind)) (isRead (c .kind)) (read-stays (c .kind)) (i .placed refl) g)

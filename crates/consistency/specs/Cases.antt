@@ -25,14 +25,15 @@ use Rattle.engine.specs.Engine.{mounted, call, completion, Step, step}
 
 -- ---- what the cases stand on
 
--- the mounts: the paper's; the same aggregated; with zone 4 full, for 02; and with block 512 and with zone 4 read-only, for small runs
--- (`Runs.antt`)
+-- the mounts: the paper's; the same aggregated; with zone 4 full, for 02; and with block 512, with zone 4 read-only, and opened by hand within two
+-- limits, for small runs (`Runs.antt`)
 pub data Setting : Type 0 where
   paper : Setting
   aggregated : Setting
   block512 : Setting
   zone4ReadOnly : Setting
   zone4Full : Setting
+  byHand : (openLimit activeLimit : ℕ) → Setting
 
 abbrev pub blockIn : Setting → ℕ
 blockIn paper = 4096
@@ -40,6 +41,7 @@ blockIn aggregated = 4096
 blockIn block512 = 512
 blockIn zone4ReadOnly = 4096
 blockIn zone4Full = 4096
+blockIn (byHand openLimit activeLimit) = 4096
 
 abbrev pub aggregates : Setting → Bool
 aggregates paper = false
@@ -47,6 +49,32 @@ aggregates aggregated = true
 aggregates block512 = false
 aggregates zone4ReadOnly = false
 aggregates zone4Full = false
+aggregates (byHand openLimit activeLimit) = false
+
+-- 02: "the option `explicit-open`, with two limits given at mount (0 means none)"
+abbrev pub explicitIn : Setting → Bool
+explicitIn paper = false
+explicitIn aggregated = false
+explicitIn block512 = false
+explicitIn zone4ReadOnly = false
+explicitIn zone4Full = false
+explicitIn (byHand openLimit activeLimit) = true
+
+abbrev pub openLimitIn : Setting → ℕ
+openLimitIn paper = 0
+openLimitIn aggregated = 0
+openLimitIn block512 = 0
+openLimitIn zone4ReadOnly = 0
+openLimitIn zone4Full = 0
+openLimitIn (byHand openLimit activeLimit) = openLimit
+
+abbrev pub activeLimitIn : Setting → ℕ
+activeLimitIn paper = 0
+activeLimitIn aggregated = 0
+activeLimitIn block512 = 0
+activeLimitIn zone4ReadOnly = 0
+activeLimitIn zone4Full = 0
+activeLimitIn (byHand openLimit activeLimit) = activeLimit
 
 -- the zone of a number: its type, its condition, its capacity and its pointer
 abbrev pub zone : ℕ → ℕ → ℕ → ℕ → ℕ → Zone
@@ -60,6 +88,7 @@ lastZone aggregated = zone 4 2 1 393216 2097152
 lastZone block512 = zone 4 2 1 393216 2097152
 lastZone zone4ReadOnly = zone 4 2 13 393216 2097152
 lastZone zone4Full = zone 4 2 14 393216 0
+lastZone (byHand openLimit activeLimit) = zone 4 2 1 393216 2097152
 
 unfoldable pub report : Setting → List ℕ
 report x =
@@ -96,9 +125,15 @@ optionText ZoneRo = ascii "errors=zone-ro"
 optionText ZoneOffline = ascii "errors=zone-offline"
 optionText Repair = ascii "errors=repair"
 
+-- with `explicit-open`, or without
+abbrev pub optionsText : Bool → ErrorPolicy → List ℕ
+optionsText false p = optionText p
+optionsText true p = optionText p ++ ascii ",explicit-open"
+
 -- the mount of a setting, under an option
 abbrev pub mountUnder : Setting → ErrorPolicy → Mounting
-mountUnder x p = mountOutcome (blockIn x) (superblock (aggregates x)) (optionText p) (report x) lent lent
+mountUnder x p =
+    mountOutcome (blockIn x) (superblock (aggregates x)) (optionsText (explicitIn x) p) (report x) (openLimitIn x) (activeLimitIn x) lent lent
 
 -- ---- what is asked of them
 

@@ -29,8 +29,8 @@ use Rattle.consistency.specs.Claim.{AsPromised}
 -- ---- a list for demand 3
 
 -- "A list for demand 3 starts from a mount answered 0, with the disk as its report says."
-pub record Start (block : ℕ) (superblock options report cnv seq : List ℕ) (disk : List DiskZone) : Type 0 where
-  pub answer : mountNumber (mountOutcome block superblock options report cnv seq .answer) ≡ 0
+pub record Start (block : ℕ) (superblock options report : List ℕ) (openLimit activeLimit : ℕ) (cnv seq : List ℕ) (disk : List DiskZone) : Type 0 where
+  pub answer : mountNumber (mountOutcome block superblock options report openLimit activeLimit cnv seq .answer) ≡ 0
   pub shown : shows report disk ≡ true
 
 -- the mount's arguments, the disk, and the entries
@@ -39,17 +39,19 @@ pub record History : Type 0 where
   pub superblock : List ℕ
   pub options : List ℕ
   pub report : List ℕ
+  pub openLimit : ℕ
+  pub activeLimit : ℕ
   pub cnv : List ℕ
   pub seq : List ℕ
   pub disk : List DiskZone
   pub events : List Event
-  pub start : Start block superblock options report cnv seq disk
-  pub honest : allTruthful (mounted (mountOutcome block superblock options report cnv seq) disk) events ≡ true
+  pub start : Start block superblock options report openLimit activeLimit cnv seq disk
+  pub honest : allTruthful (mounted (mountOutcome block superblock options report openLimit activeLimit cnv seq) disk) events ≡ true
 
 -- the system after it
 abbrev pub after : History → System
 after h =
-    run (mounted (mountOutcome (h .block) (h .superblock) (h .options) (h .report) (h .cnv) (h .seq)) (h .disk)) (h .events)
+    run (mounted (mountOutcome (h .block) (h .superblock) (h .options) (h .report) (h .openLimit) (h .activeLimit) (h .cnv) (h .seq)) (h .disk)) (h .events)
 
 -- ---- the claim
 
@@ -63,7 +65,7 @@ pub record Fresh (h : History) : Type 0 where
   pub seqLong : length seq ≡ length (h .seq)
 
 abbrev pub freshMount : (h : History) → Fresh h → Mounting
-freshMount h f = mountOutcome (h .block) (h .superblock) (h .options) (f .report) (f .cnv) (f .seq)
+freshMount h f = mountOutcome (h .block) (h .superblock) (h .options) (f .report) (h .openLimit) (h .activeLimit) (f .cnv) (f .seq)
 
 -- row n of the words `now` compares with row n of the words `fresh` as promised
 pub record Compares (p : ErrorPolicy) (h : FileHistory) (z : DiskZone) (fresh now : List ℕ) (n : ℕ) : Type 0 where
@@ -90,8 +92,8 @@ Demand3 = (h : History) (f : Fresh h) → Consistent (policyOf (optionsOf (h .op
 -- every mount answered 0 has a disk that its report shows
 unfoldable pub AlwaysStarted : Type 0
 AlwaysStarted =
-    (block : ℕ) (superblock options report cnv seq : List ℕ) → mountNumber (mountOutcome block superblock options report cnv seq .answer) ≡ 0
-    → (disk : List DiskZone) × Start block superblock options report cnv seq disk
+    (block : ℕ) (superblock options report : List ℕ) (openLimit activeLimit : ℕ) (cnv seq : List ℕ) → mountNumber (mountOutcome block superblock options report openLimit activeLimit cnv seq .answer) ≡ 0
+    → (disk : List DiskZone) × Start block superblock options report openLimit activeLimit cnv seq disk
 
 -- the disk's own report is one of bytes, and shows the disk as it is: a fresh mount can always be made
 pub record Reported (disk : List DiskZone) : Type 0 where

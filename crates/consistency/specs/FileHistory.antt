@@ -6,7 +6,7 @@ use lib.Dec.{eqb}
 use Rattle.types.specs.declared.Command.{Command}
 use Rattle.types.specs.declared.CommandKind.{CommandKind}
 use Rattle.types.specs.Codes.{conditionCode}
-use Rattle.types.specs.Commands.{isRead}
+use Rattle.types.specs.Commands.{isRead, opensOrCloses}
 use Rattle.types.specs.Predicates.{means, isHealthy, isReadOnly}
 use Rattle.files.specs.Files.{seqRow}
 use Rattle.disk.specs.Disk.{DiskZone, hasPointer, reported}
@@ -49,9 +49,13 @@ abbrev pub updated : FileHistory → DiskZone → Bool → Bool → FileHistory
 updated h z quiet recovered =
     record { quiet = quiet; lastSize = lastSizeAt quiet z (h .lastSize); recovered = recovered; readOnlyAtMount = h .readOnlyAtMount }
 
+-- "a good read"; 02: open and close "done well count as a good read"
+abbrev pub goodRead : CommandKind → Bool
+goodRead k = isRead k || opensOrCloses k
+
 -- of a command that was done: "other than a good read"
 unfoldable pub afterSuccess : FileHistory → Command → DiskZone → FileHistory
-afterSuccess h c z = updated h z (h .quiet || not (isRead (c .kind))) (h .recovered)
+afterSuccess h c z = updated h z (h .quiet || not (goodRead (c .kind))) (h .recovered)
 
 -- "a read after which the zone was healthy and a fresh mount would have given the last size from before it"
 abbrev pub harmless : CommandKind → DiskZone → ℕ → Bool

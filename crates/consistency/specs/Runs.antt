@@ -1,5 +1,6 @@
 -- Small runs, from mounts like that of the starred cases, which show that the disk isn't too tame: in them every command is done and fails,
--- a write lands in part, zones fall and worsen, alone and with a failure, several files are busy at once, and each exception of demand 3 comes about.
+-- a write lands in part, zones fall and worsen, alone and with a failure, several files are busy at once, files are opened and closed by hand up to their
+-- limits, and each exception of demand 3 comes about.
 use mathlib.Core.Bool.{Bool, true, false}
 use mathlib.Core.List.{List, [], _∷_, _++_}
 use Prim.Native.Nat.{ℕ, _*_}
@@ -27,7 +28,7 @@ use Rattle.engine.specs.Engine as engine
 use Rattle.disk.specs.Disk.{DiskZone, Harm, none, toReadOnly, toOffline, Mishap, Choice, reported}
 use Rattle.consistency.specs.System.{System, outstandingBy, Event, call, mishap, doing, stray, digested, step, run, allTruthful, mounted, zoneOf, historyOf}
 use Rattle.consistency.specs.Demand.{Start}
-use Rattle.consistency.specs.Cases.{Setting, paper, aggregated, block512, zone4ReadOnly, zone4Full, blockIn, aggregates, zone, report, superblock, lent, optionText, mountUnder, sizeIn, accessIn}
+use Rattle.consistency.specs.Cases.{Setting, paper, aggregated, block512, zone4ReadOnly, zone4Full, byHand, blockIn, aggregates, explicitIn, openLimitIn, activeLimitIn, zone, report, superblock, lent, optionsText, mountUnder, sizeIn, accessIn}
 
 -- ---- the disk of each setting
 
@@ -42,6 +43,7 @@ lastThere aggregated = zoneThere 4 Sequential 393216 2097152 Healthy
 lastThere block512 = zoneThere 4 Sequential 393216 2097152 Healthy
 lastThere zone4ReadOnly = zoneThere 4 Sequential 393216 2097152 ReadOnly
 lastThere zone4Full = zoneThere 4 Sequential 393216 2490368 Healthy
+lastThere (byHand openLimit activeLimit) = zoneThere 4 Sequential 393216 2097152 Healthy
 
 unfoldable pub disk : Setting → List DiskZone
 disk x =
@@ -84,6 +86,18 @@ finish = seq0 (Call.Truncate 201326592)
 
 abbrev pub flush : Event
 flush = seq0 Call.Flush
+
+abbrev pub open0 : Event
+open0 = seq0 Call.Open
+
+abbrev pub close0 : Event
+close0 = seq0 Call.Close
+
+abbrev pub open1 : Event
+open1 = seq1 Call.Open
+
+abbrev pub close1 : Event
+close1 = seq1 Call.Close
 
 -- so many blocks back; a worse condition
 abbrev pub falls : ℕ → Mishap
@@ -168,6 +182,10 @@ replies s (e ∷ es) = replyTo s e ++ replies (step s e) es
 -- what a row has outstanding: 0 for nothing, else 1 + the command's code
 abbrev pub heldIn : List ℕ → ℕ → ℕ
 heldIn table row = wordAt table row 5
+
+-- its opens
+abbrev pub opensIn : List ℕ → ℕ → ℕ
+opensIn table row = wordAt table row 8
 
 -- of seq/n: size and access of its row, those that a fresh mount gives its zone, whether it is quiet, its last size; and the read-only mark
 abbrev pub seqSeen : ℕ → System → List ℕ
@@ -348,12 +366,77 @@ module _ (under : Setting → ErrorPolicy → Mounting) where
       ∷ onThree RemountRo (write ∷ write1 ∷ fails 1 (falls 0) (zone3 2 2 1572880) ∷ done1 ∷ write1 ∷ []) (0 ∷ 0 ∷ 7 ∷ 0 ∷ 3 ∷ []) (8192 ∷ 4096 ∷ 8192 ∷ 4096 ∷ 1 ∷ 1 ∷ 0 ∷ 0 ∷ 0 ∷ 1 ∷ [])
       ∷ []
 
+  -- seq/0 and seq/1: the opens of each, and what each has outstanding; of seq/0 size and access, and whether it is quiet; and the account: how many
+  -- files are open, and how many active
+  abbrev pub openSeen : System → List ℕ
+  openSeen s =
+      opensIn (s .state .seq) 0 ∷ opensIn (s .state .seq) 1 ∷ heldIn (s .state .seq) 0 ∷ heldIn (s .state .seq) 1
+      ∷ sizeIn (s .state .seq) 0 ∷ accessIn (s .state .seq) 0 ∷ flagCode (historyOf s 0 .quiet)
+      ∷ s .state .mount .account .opened ∷ s .state .mount .account .active ∷ []
+
+  abbrev pub onOpens : Setting → ErrorPolicy → List Event → List ℕ → List ℕ → Case
+  onOpens x p events answers seen = is (seenOf openSeen (startIn x p) events) (truly answers seen)
+
+  -- 02: opening by hand. From the mount on seq/0, of 4096 bytes, is active, and seq/1, which is empty, isn't
+  unfoldable pub openRuns : List Case
+  openRuns =
+      -- "The first open of a file that isn't full commands a zone open", and it is open from then on; a write comes after it
+      onOpens (byHand 0 0) Repair (open0 ∷ []) (0 ∷ []) (1 ∷ 0 ∷ 6 ∷ 0 ∷ 4096 ∷ 2 ∷ 1 ∷ 1 ∷ 1 ∷ [])
+      ∷ onOpens (byHand 0 0) Repair (open0 ∷ done ∷ write ∷ done ∷ []) (0 ∷ 0 ∷ 0 ∷ 0 ∷ []) (1 ∷ 0 ∷ 0 ∷ 0 ∷ 12288 ∷ 2 ∷ 1 ∷ 1 ∷ 1 ∷ [])
+      -- "so does a seq write to a file not open": 13
+      ∷ onOpens (byHand 0 0) Repair (write ∷ []) (13 ∷ []) (0 ∷ 0 ∷ 0 ∷ 0 ∷ 4096 ∷ 2 ∷ 1 ∷ 0 ∷ 1 ∷ [])
+      -- an empty file becomes active by its first open; "others are answered 0"
+      ∷ onOpens (byHand 0 0) Repair (open1 ∷ done1 ∷ open1 ∷ []) (0 ∷ 0 ∷ 0 ∷ []) (0 ∷ 2 ∷ 0 ∷ 0 ∷ 4096 ∷ 2 ∷ 1 ∷ 1 ∷ 2 ∷ [])
+      -- "the last close of one neither empty nor full a zone close; others are answered 0"; without an open 13
+      ∷ onOpens (byHand 0 0) Repair (open0 ∷ done ∷ open0 ∷ close0 ∷ close0 ∷ []) (0 ∷ 0 ∷ 0 ∷ 0 ∷ 0 ∷ []) (0 ∷ 0 ∷ 7 ∷ 0 ∷ 4096 ∷ 2 ∷ 1 ∷ 0 ∷ 1 ∷ [])
+      ∷ onOpens (byHand 0 0) Repair (open0 ∷ done ∷ close0 ∷ done ∷ close0 ∷ []) (0 ∷ 0 ∷ 0 ∷ 0 ∷ 13 ∷ []) (0 ∷ 0 ∷ 0 ∷ 0 ∷ 4096 ∷ 2 ∷ 1 ∷ 0 ∷ 1 ∷ [])
+      ∷ onOpens (byHand 0 0) Repair (open1 ∷ done1 ∷ close1 ∷ []) (0 ∷ 0 ∷ 0 ∷ []) (0 ∷ 0 ∷ 0 ∷ 0 ∷ 4096 ∷ 2 ∷ 1 ∷ 0 ∷ 1 ∷ [])
+      -- of a full one neither is commanded, and it isn't active, until it is reset
+      ∷ onOpens (byHand 0 0) Repair (finish ∷ done ∷ open0 ∷ []) (0 ∷ 0 ∷ 0 ∷ []) (1 ∷ 0 ∷ 0 ∷ 0 ∷ 201326592 ∷ 2 ∷ 1 ∷ 1 ∷ 0 ∷ [])
+      ∷ onOpens (byHand 0 0) Repair (finish ∷ done ∷ open0 ∷ close0 ∷ []) (0 ∷ 0 ∷ 0 ∷ 0 ∷ []) (0 ∷ 0 ∷ 0 ∷ 0 ∷ 201326592 ∷ 2 ∷ 1 ∷ 0 ∷ 0 ∷ [])
+      ∷ onOpens (byHand 0 0) Repair (finish ∷ done ∷ open0 ∷ reset ∷ done ∷ []) (0 ∷ 0 ∷ 0 ∷ 0 ∷ 0 ∷ []) (1 ∷ 0 ∷ 0 ∷ 0 ∷ 0 ∷ 2 ∷ 1 ∷ 1 ∷ 1 ∷ [])
+      -- "an open that would raise the open count above its limit answers 11": of one file, and of one that is open already it raises nothing
+      ∷ onOpens (byHand 1 0) Repair (open0 ∷ done ∷ open1 ∷ open0 ∷ []) (0 ∷ 0 ∷ 11 ∷ 0 ∷ []) (2 ∷ 0 ∷ 0 ∷ 0 ∷ 4096 ∷ 2 ∷ 1 ∷ 1 ∷ 1 ∷ [])
+      -- ".. the active count 12": of one file, which is active already
+      ∷ onOpens (byHand 0 1) Repair (open0 ∷ done ∷ open1 ∷ []) (0 ∷ 0 ∷ 12 ∷ []) (1 ∷ 0 ∷ 0 ∷ 0 ∷ 4096 ∷ 2 ∷ 1 ∷ 1 ∷ 1 ∷ [])
+      -- "in that order"
+      ∷ onOpens (byHand 1 1) Repair (open1 ∷ open0 ∷ done ∷ open1 ∷ []) (12 ∷ 0 ∷ 0 ∷ 11 ∷ []) (1 ∷ 0 ∷ 0 ∷ 0 ∷ 4096 ∷ 2 ∷ 1 ∷ 1 ∷ 1 ∷ [])
+      -- of two files each, both can be open and active; and a close makes room from the moment that it is commanded
+      ∷ onOpens (byHand 2 2) Repair (open0 ∷ open1 ∷ done ∷ done1 ∷ []) (0 ∷ 0 ∷ 0 ∷ 0 ∷ []) (1 ∷ 1 ∷ 0 ∷ 0 ∷ 4096 ∷ 2 ∷ 1 ∷ 2 ∷ 2 ∷ [])
+      ∷ onOpens (byHand 1 0) Repair (open0 ∷ done ∷ close0 ∷ open1 ∷ []) (0 ∷ 0 ∷ 0 ∷ 0 ∷ []) (0 ∷ 1 ∷ 7 ∷ 6 ∷ 4096 ∷ 2 ∷ 1 ∷ 1 ∷ 2 ∷ [])
+      -- "A file is open .. until .. a failed open": a close is answered 13 then; a fall may come with the failure
+      ∷ onOpens (byHand 0 0) Repair (open0 ∷ fails 0 (falls 0) (zone3 2 2 1572872) ∷ close0 ∷ []) (0 ∷ 7 ∷ 13 ∷ []) (0 ∷ 0 ∷ 0 ∷ 0 ∷ 4096 ∷ 2 ∷ 1 ∷ 0 ∷ 1 ∷ [])
+      ∷ onOpens (byHand 0 0) Repair (open1 ∷ fails1 0 (falls 0) (zone4 2 1 2097152) ∷ close1 ∷ []) (0 ∷ 7 ∷ 13 ∷ []) (0 ∷ 0 ∷ 0 ∷ 0 ∷ 4096 ∷ 2 ∷ 1 ∷ 0 ∷ 1 ∷ [])
+      ∷ onOpens (byHand 0 0) Repair (open0 ∷ fails 0 (falls 1) (zone3 2 1 1572864) ∷ []) (0 ∷ 7 ∷ []) (0 ∷ 0 ∷ 0 ∷ 0 ∷ 0 ∷ 2 ∷ 1 ∷ 0 ∷ 0 ∷ [])
+      -- a close that fails leaves it closed all the same; its record may have condition 4, that of another command 3
+      ∷ onOpens (byHand 0 0) Repair (open0 ∷ done ∷ close0 ∷ fails 0 (falls 0) (zone3 2 4 1572872) ∷ close0 ∷ []) (0 ∷ 0 ∷ 0 ∷ 7 ∷ 13 ∷ []) (0 ∷ 0 ∷ 0 ∷ 0 ∷ 4096 ∷ 2 ∷ 1 ∷ 0 ∷ 1 ∷ [])
+      ∷ onOpens (byHand 0 0) Repair (open0 ∷ done ∷ write ∷ fails 1 (falls 0) (zone3 2 3 1572880) ∷ []) (0 ∷ 0 ∷ 0 ∷ 7 ∷ []) (1 ∷ 0 ∷ 0 ∷ 0 ∷ 8192 ∷ 2 ∷ 1 ∷ 1 ∷ 1 ∷ [])
+      -- ".. or the loss of write access"
+      ∷ onOpens (byHand 0 0) Repair (open0 ∷ done ∷ write ∷ fails 1 (worsens toReadOnly) (zone3 2 13 0) ∷ close0 ∷ []) (0 ∷ 0 ∷ 0 ∷ 7 ∷ 13 ∷ []) (0 ∷ 0 ∷ 0 ∷ 0 ∷ 4096 ∷ 1 ∷ 1 ∷ 0 ∷ 0 ∷ [])
+      ∷ onOpens (byHand 0 0) ZoneRo (open0 ∷ done ∷ write ∷ fails 1 (falls 0) (zone3 2 2 1572880) ∷ close0 ∷ []) (0 ∷ 0 ∷ 0 ∷ 7 ∷ 13 ∷ []) (0 ∷ 0 ∷ 0 ∷ 0 ∷ 8192 ∷ 1 ∷ 1 ∷ 0 ∷ 0 ∷ [])
+      -- "On the disk open and close .. fail on an unhealthy zone"
+      ∷ onOpens (byHand 0 0) Repair (mishap 3 (worsens toReadOnly) ∷ open0 ∷ tries (zone3 2 13 7) ∷ []) (0 ∷ 7 ∷ []) (0 ∷ 0 ∷ 0 ∷ 0 ∷ 4096 ∷ 1 ∷ 1 ∷ 0 ∷ 0 ∷ [])
+      ∷ onOpens (byHand 0 0) Repair (open0 ∷ done ∷ mishap 3 (worsens toReadOnly) ∷ close0 ∷ tries (zone3 2 13 7) ∷ []) (0 ∷ 0 ∷ 0 ∷ 7 ∷ []) (0 ∷ 0 ∷ 0 ∷ 0 ∷ 4096 ∷ 1 ∷ 1 ∷ 0 ∷ 0 ∷ [])
+      -- ".. done well count as a good read": neither shows anything of a fall
+      ∷ onOpens (byHand 0 0) Repair (mishap 3 (falls 1) ∷ open0 ∷ done ∷ []) (0 ∷ 0 ∷ []) (1 ∷ 0 ∷ 0 ∷ 0 ∷ 4096 ∷ 2 ∷ 0 ∷ 1 ∷ 1 ∷ [])
+      ∷ onOpens (byHand 0 0) Repair (open0 ∷ done ∷ mishap 3 (falls 1) ∷ close0 ∷ done ∷ []) (0 ∷ 0 ∷ 0 ∷ 0 ∷ []) (0 ∷ 0 ∷ 0 ∷ 0 ∷ 4096 ∷ 2 ∷ 0 ∷ 0 ∷ 1 ∷ [])
+      -- "A close skips 3": on a mount that a recovery marked read-only
+      ∷ onOpens (byHand 0 0) RemountRo (open0 ∷ done ∷ write ∷ fails 1 (falls 0) (zone3 2 2 1572880) ∷ open1 ∷ close0 ∷ []) (0 ∷ 0 ∷ 0 ∷ 7 ∷ 3 ∷ 0 ∷ []) (0 ∷ 0 ∷ 7 ∷ 0 ∷ 8192 ∷ 2 ∷ 1 ∷ 0 ∷ 1 ∷ [])
+      -- "Without the option they only count and command nothing", and an open file that is empty isn't active
+      ∷ onOpens paper Repair (open0 ∷ open0 ∷ open1 ∷ []) (0 ∷ 0 ∷ 0 ∷ []) (2 ∷ 1 ∷ 0 ∷ 0 ∷ 4096 ∷ 2 ∷ 1 ∷ 2 ∷ 1 ∷ [])
+      ∷ onOpens paper Repair (open0 ∷ close0 ∷ close0 ∷ write ∷ done ∷ []) (0 ∷ 0 ∷ 13 ∷ 0 ∷ 0 ∷ []) (0 ∷ 0 ∷ 0 ∷ 0 ∷ 12288 ∷ 2 ∷ 1 ∷ 0 ∷ 1 ∷ [])
+      -- "on cnv both are answered 0 after 2"
+      ∷ onOpens (byHand 1 1) Repair (cnv0 Call.Open ∷ cnv0 Call.Close ∷ cnv0 Call.Flush ∷ cnv0 Call.Open ∷ []) (0 ∷ 0 ∷ 0 ∷ 2 ∷ []) (0 ∷ 0 ∷ 0 ∷ 0 ∷ 4096 ∷ 2 ∷ 1 ∷ 0 ∷ 1 ∷ [])
+      ∷ []
+
 -- the runs are of those that demand 3 speaks of, and each ends as its table says
 pub record Runs : Type 0 where
-  pub starts : (x : Setting) (p : ErrorPolicy) → Start (blockIn x) (superblock (aggregates x)) (optionText p) (report x) lent lent (disk x)
+  pub starts : (x : Setting) (p : ErrorPolicy)
+      → Start (blockIn x) (superblock (aggregates x)) (optionsText (explicitIn x) p) (report x) (openLimitIn x) (activeLimitIn x) lent lent (disk x)
   pub commands : AsStated (commandRuns mountUnder)
   pub mishaps : AsStated (mishapRuns mountUnder)
   pub exceptions : AsStated (exceptionRuns mountUnder)
   pub full : AsStated (fullRuns mountUnder)
   pub others : AsStated (otherRuns mountUnder)
   pub busy : AsStated (busyRuns mountUnder)
+  pub opens : AsStated (openRuns mountUnder)

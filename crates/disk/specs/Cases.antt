@@ -9,7 +9,7 @@ use Rattle.types.specs.declared.Condition.{Condition}
 use Rattle.types.specs.declared.Condition.the-variants.{Healthy, ReadOnly, Offline}
 use Rattle.types.specs.declared.Command.{Command}
 use Rattle.types.specs.declared.CommandKind.{CommandKind}
-use Rattle.types.specs.declared.CommandKind.the-variants.{Read, Write, Reset, Finish, Flush}
+use Rattle.types.specs.declared.CommandKind.the-variants.{Read, Write, Reset, Finish, Flush, Open, Close}
 use Rattle.types.specs.Blocks.{bytesOf}
 use Rattle.types.specs.Codes.{flagCode, conditionCode}
 use Rattle.types.specs.Stated.{Case, is, AsStated}
@@ -88,6 +88,14 @@ commandCases =
     ∷ is (failedAfter 2 (record { blocks = 1; harm = toReadOnly }) (seqZone 808 Healthy) (commandAt Write 808 8192)) (0 ∷ 816 ∷ 1 ∷ [])
     -- .. and only with one
     ∷ is (doneSeen (perform 4096 true (seqZone 808 Healthy) (commandAt Write 808 8192) (record { fails = false; lands = 0; mishap = record { blocks = 1; harm = toReadOnly } }))) (1 ∷ 824 ∷ 0 ∷ [])
+    -- 02: "On the disk open and close move no pointer", wherever it stands
+    ∷ is (tried true (seqZone 808 Healthy) (commandAt Open 800 0)) (1 ∷ 808 ∷ 0 ∷ [])
+    ∷ is (tried true (seqZone 800 Healthy) (commandAt Open 800 0)) (1 ∷ 800 ∷ 0 ∷ [])
+    ∷ is (tried true (seqZone 808 Healthy) (commandAt Close 800 0)) (1 ∷ 808 ∷ 0 ∷ [])
+    -- .. nor where they fail, as any command may; a mishap may come with it
+    ∷ is (failedAfter 1 noMishap (seqZone 808 Healthy) (commandAt Open 800 0)) (0 ∷ 808 ∷ 0 ∷ [])
+    ∷ is (failedAfter 1 noMishap (seqZone 808 Healthy) (commandAt Close 800 0)) (0 ∷ 808 ∷ 0 ∷ [])
+    ∷ is (failedAfter 0 (record { blocks = 1; harm = none }) (seqZone 816 Healthy) (commandAt Open 800 0)) (0 ∷ 808 ∷ 0 ∷ [])
     ∷ []
 
 -- whether a zone can do a command
@@ -102,6 +110,13 @@ allowedCases =
     ∷ is (tried true (seqZone 808 Offline) (commandAt Finish 800 0)) (0 ∷ 808 ∷ 2 ∷ [])
     ∷ is (tried true (seqZone 808 ReadOnly) (commandAt Read 800 4096)) (1 ∷ 808 ∷ 1 ∷ [])
     ∷ is (tried true (seqZone 808 Offline) (commandAt Read 800 4096)) (0 ∷ 808 ∷ 2 ∷ [])
+    -- 02: "open and close .. fail on an unhealthy zone", whether the file is quiet or not
+    ∷ is (tried true (seqZone 808 ReadOnly) (commandAt Open 800 0)) (0 ∷ 808 ∷ 1 ∷ [])
+    ∷ is (tried true (seqZone 808 Offline) (commandAt Open 800 0)) (0 ∷ 808 ∷ 2 ∷ [])
+    ∷ is (tried true (seqZone 808 ReadOnly) (commandAt Close 800 0)) (0 ∷ 808 ∷ 1 ∷ [])
+    ∷ is (tried true (seqZone 808 Offline) (commandAt Close 800 0)) (0 ∷ 808 ∷ 2 ∷ [])
+    ∷ is (tried false (seqZone 808 Healthy) (commandAt Open 800 0)) (1 ∷ 808 ∷ 0 ∷ [])
+    ∷ is (tried false (seqZone 808 Healthy) (commandAt Close 800 0)) (1 ∷ 808 ∷ 0 ∷ [])
     -- "Flush concerns its own zone and fails if the file isn't quiet."
     ∷ is (tried true (seqZone 808 Healthy) (commandAt Flush 800 0)) (1 ∷ 808 ∷ 0 ∷ [])
     ∷ is (tried false (seqZone 808 Healthy) (commandAt Flush 800 0)) (0 ∷ 808 ∷ 0 ∷ [])
@@ -166,6 +181,13 @@ reportCases =
     ∷ is (shown 2 14 1440 (seqZone 1432 Healthy)) (0 ∷ [])
     ∷ is (shown 2 4 0 (seqZone 1440 Healthy)) (0 ∷ [])
     ∷ is (shown 2 13 0 (seqZone 1440 Healthy)) (0 ∷ [])
+    -- 02: an open or a close "may leave condition 3 or 4", wherever the pointer stands
+    ∷ is (shown 2 3 808 (seqZone 808 Healthy)) (1 ∷ [])
+    ∷ is (shown 2 4 808 (seqZone 808 Healthy)) (1 ∷ [])
+    ∷ is (shown 2 3 800 (seqZone 800 Healthy)) (1 ∷ [])
+    ∷ is (shown 2 4 800 (seqZone 800 Healthy)) (1 ∷ [])
+    ∷ is (shown 2 3 816 (seqZone 808 Healthy)) (0 ∷ [])
+    ∷ is (shown 2 3 808 (seqZone 808 ReadOnly)) (0 ∷ [])
     -- "the zone at its address"
     ∷ is (map (λ (n : ℕ). zoneHolding (record { kind = Conventional; start = 0; length = 800; capacity = 800; pointer = 0; condition = Healthy } ∷ seqZone 800 Healthy ∷ []) (bytesOf n)) (0 ∷ 799 ∷ 800 ∷ 1439 ∷ []))
     (0 ∷ 0 ∷ 1 ∷ 1 ∷ [])

@@ -12,7 +12,7 @@ use Rattle.types.specs.declared.Command.{Command}
 use Rattle.types.specs.declared.Movement.{Movement}
 use Rattle.types.specs.declared.Movement.the-variants.{Stays, Advances, ToStart, ToEnd}
 use Rattle.types.specs.Blocks.{sectorBytes, bytesOf, blockSectors}
-use Rattle.types.specs.Commands.{movementOf, isRead}
+use Rattle.types.specs.Commands.{movementOf, isRead, opensOrCloses}
 use Rattle.types.specs.Predicates.{isConventional, isHealthy, isOffline}
 use Rattle.zones.specs.declared.Zone.{Zone}
 use Rattle.zones.specs.Zone.{encodeZone}
@@ -91,24 +91,25 @@ abbrev pub flushes : FileKind → Bool → Bool
 flushes Conventional quiet = true
 flushes Sequential quiet = quiet
 
--- "Write, reset and finish", which move the pointer, "fail on an unhealthy zone, a read on an offline one"; a write is taken only at the
--- pointer, and what neither moves nor reads is a flush
+-- of all but an open and a close: "Write, reset and finish", which move the pointer, "fail on an unhealthy zone, a read on an offline one"; a
+-- write is taken only at the pointer, and what neither moves nor reads is a flush
 abbrev pub allowsBy : Movement → Bool → Bool → DiskZone → ℕ → Bool
 allowsBy Stays read quiet z address = cond read (not (isOffline (z .condition))) (flushes (z .kind) quiet)
 allowsBy Advances read quiet z address = isHealthy (z .condition) && takesAt (z .kind) (z .pointer) address
 allowsBy ToStart read quiet z address = isHealthy (z .condition)
 allowsBy ToEnd read quiet z address = isHealthy (z .condition)
 
--- the zone can do the command
+-- the zone can do the command; 02: "open and close .. fail on an unhealthy zone"
 unfoldable pub allows : Bool → DiskZone → Command → Bool
-allows quiet z c = allowsBy (movementOf (c .kind)) (isRead (c .kind)) quiet z (c .address)
+allows quiet z c =
+    cond (opensOrCloses (c .kind)) (isHealthy (z .condition)) (allowsBy (movementOf (c .kind)) (isRead (c .kind)) quiet z (c .address))
 
 -- ".. and moves it by the length"
 abbrev pub advanced : FileKind → ℕ → ℕ → ℕ
 advanced Conventional pointer n = pointer
 advanced Sequential pointer n = pointer + n / sectorBytes
 
--- the pointer once a command of n bytes is done: "reset and finish move it to start and start+capacity"
+-- the pointer once a command of n bytes is done: "reset and finish move it to start and start+capacity"; 02: "open and close move no pointer"
 abbrev pub pointerAfter : DiskZone → Movement → ℕ → ℕ
 pointerAfter z Stays n = z .pointer
 pointerAfter z Advances n = advanced (z .kind) (z .pointer) n

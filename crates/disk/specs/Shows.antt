@@ -23,7 +23,7 @@ showsKind Conventional r = conventional r
 showsKind Sequential r = sequential r
 
 -- the byte of a healthy zone: of a conventional one 0; of a sequential one 1 to 4, or 14 where its pointer stands at the end, which takes in
--- the one that the disk's rules name
+-- the one that the disk's rules name and 02's, an open or a close "may leave condition 3 or 4"
 abbrev pub showsHealthy : FileKind → DiskZone → ℕ → Bool
 showsHealthy Conventional z byte = eqb byte 0
 showsHealthy Sequential z byte = leb 1 byte && leb byte 4 || eqb byte 14 && isFull z

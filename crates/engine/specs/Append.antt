@@ -1,7 +1,7 @@
 -- The promise of an append: a write to a sequential file that is permitted is never refused, and never answered without its one command;
 -- and no other write to a sequential file is commanded. For any mount value and tables whatever.
 use Prim.Native.Nat.{ℕ, _+_, _%_, _≤_, _<_}
-use mathlib.Core.Bool.{false}
+use mathlib.Core.Bool.{true, false}
 use mathlib.Core.Path.{_≡_}
 use Rattle.types.specs.declared.Row.{Row}
 use Rattle.types.specs.declared.Call.{Call}
@@ -14,16 +14,18 @@ use Rattle.types.specs.declared.Outstanding.the-variants.{Idle}
 use Rattle.types.specs.Blocks.{bytesOf}
 use Rattle.types.specs.Codes.{kindCode}
 use Rattle.table.specs.Rows.{setRow, holding}
+use Rattle.account.specs.Account.{isOpen}
 use Rattle.checks.specs.Facts.{Reached}
 use Rattle.engine.specs.Engine.{State, Input, Step, step}
 
 -- a write of `length` bytes at `offset` to seq file n, whose row is r: neither 10 nor 1; not 2; "Write: 3, 4, 5, then for seq 6. Length 0:
--- answered 0. Else a write command."
+-- answered 0. Else a write command."; 02: with the option not 13
 pub record Permitted (s : State) (n : ℕ) (r : Row) (offset length : ℕ) : Type 0 where
-  pub reached : Reached (s .mount .volume) (s .cnv) (s .seq) Sequential n r
+  pub reached : Reached (s .mount) (s .cnv) (s .seq) Sequential n r
   pub idle : r .outstanding ≡ Idle
   pub writable : s .mount .readonly ≡ false
   pub access : r .access ≡ access.Write
+  pub opened : s .mount .volume .explicit ≡ true → isOpen r ≡ true
   pub fits : offset + length ≤ r .capacity
   pub appends : offset ≡ r .size
   pub whole : length % s .mount .volume .block ≡ 0

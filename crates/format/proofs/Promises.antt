@@ -25,7 +25,7 @@ use Rattle.zones.specs.declared.Zone.{Zone}
 use Rattle.zones.specs.Zone.{zoneAt}
 use Rattle.files.specs.Files.{cnvRows, seqRows}
 use Rattle.mount.specs.Fill.{fill}
-use Rattle.mount.specs.Mount.{Mounting, fileZones, mountCheck, answerFor, mountAnswerOf, policyOf, mountOf, tableAfter, aggregated, mountAnswer, mountOutcome}
+use Rattle.mount.specs.Mount.{Mounting, fileZones, mountCheck, answerFor, mountAnswerOf, mountOf, tableAfter, aggregated, mountAnswer, mountOutcome}
 use Rattle.format.specs.declared.SuperFields.{SuperFields}
 use Rattle.format.specs.Format.{recordCheck, filled, blockOf, formatCheck, formatAs, formatOutcome, fieldsAt, fieldsRead}
 use Rattle.format.specs.Promises.{Typed, AllElseGood, MountsWith, WrittenMounts, MountThere, asGiven, WrittenRead, ReadWritten}
@@ -35,16 +35,18 @@ use Rattle.format.proofs.Checks.{Told, format-told, format-passes}
 
 -- A MOUNT of a super block that is found good, all else good
 
-mounts : (unit : ℕ) (superblock options report cnv seq : List ℕ) (f : SuperBlock) → superRead superblock ≡ record { check = verdict.Passed; fields = f }
+mounts : (unit : ℕ) (superblock options report : List ℕ) (openLimit activeLimit : ℕ) (cnv seq : List ℕ) (f : SuperBlock) → superRead superblock ≡ record { check = verdict.Passed; fields = f }
     → mountCheck unit verdict.Passed (optionsOf options) (f .aggregate) report (rowsLent (length cnv)) (rowsLent (length seq)) ≡ verdict.Passed
-    → mountOutcome unit superblock options report cnv seq ≡ record {
+    → mountOutcome unit superblock options report openLimit activeLimit cnv seq ≡ record {
       answer = Mounted (length (cnvRows (f .aggregate) (fileZones report))) (length (seqRows (fileZones report)));
-      mount = mountOf (Mounted (length (cnvRows (f .aggregate) (fileZones report))) (length (seqRows (fileZones report)))) unit f (policyOf (optionsOf options));
+      mount =
+          mountOf (Mounted (length (cnvRows (f .aggregate) (fileZones report))) (length (seqRows (fileZones report)))) unit f (optionsOf options) openLimit activeLimit
+          (fill seq (seqRows (fileZones report)));
       cnv = fill cnv (cnvRows (f .aggregate) (fileZones report));
       seq = fill seq (seqRows (fileZones report));
     }
 unfolding mountOutcome mountAnswer mountAnswerOf answerFor tableAfter
-mounts unit superblock options report cnv seq f r p =
+mounts unit superblock options report openLimit activeLimit cnv seq f r p =
     let bit : aggregated superblock ≡ f .aggregate = ap (λ (x : SuperRead). x .fields .aggregate) r in
     rw (r, bit, p)
 
@@ -79,10 +81,11 @@ module _ (block : ℕ) (lent zone : List ℕ) (v : SuperFields) (given finish : 
     read : superRead (formatOutcome block lent v given zone .block) ≡ superRead (blockOf v)
     read = ap superRead (done .1)
 
-    mounted : (unit : ℕ) (options report cnv seq : List ℕ) → AllElseGood unit options (v .features) report cnv seq → MountsWith v report cnv seq (mountOutcome unit (formatOutcome block lent v given zone .block) options report cnv seq)
+    mounted : (unit : ℕ) (options report : List ℕ) (openLimit activeLimit : ℕ) (cnv seq : List ℕ) → AllElseGood unit options (v .features) report cnv seq
+        → MountsWith v report cnv seq (mountOutcome unit (formatOutcome block lent v given zone .block) options report openLimit activeLimit cnv seq)
     unfolding mountOf
-    mounted unit options report cnv seq p =
-        let whole = mounts unit _ options report cnv seq _ (read ∙ written.written-read _ _ _ _ _ _ typed (told .values)) p in
+    mounted unit options report openLimit activeLimit cnv seq p =
+        let whole = mounts unit _ options report openLimit activeLimit cnv seq _ (read ∙ written.written-read _ _ _ _ _ _ typed (told .values)) p in
         record {
           answer = ap (λ (o : Mounting). o .answer) whole;
           uuid = ap (λ (o : Mounting). o .mount .volume .uuid) whole;
@@ -101,7 +104,8 @@ module _ (block : ℕ) (lent zone : List ℕ) (v : SuperFields) (given finish : 
 
 pub written-mounts : WrittenMounts
 unfolding WrittenMounts
-written-mounts block lent zone v given finish t e unit options report cnv seq p = mounted block lent zone v given finish e t unit options report cnv seq p
+written-mounts block lent zone v given finish t e unit options report openLimit activeLimit cnv seq p =
+    mounted block lent zone v given finish e t unit options report openLimit activeLimit cnv seq p
 
 pub mount-there : MountThere
 unfolding MountThere

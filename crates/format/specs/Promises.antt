@@ -47,12 +47,13 @@ abbrev pub AllElseGood : ℕ → List ℕ → ℕ → List ℕ → List ℕ → 
 AllElseGood mountBlock options features report cnv seq =
     mountCheck mountBlock Passed (optionsOf options) (aggregates features) report (rowsLent (length cnv)) (rowsLent (length seq)) ≡ Passed
 
--- "Every block written mounts, all else good"
+-- "Every block written mounts, all else good", whatever the limits
 unfoldable pub WrittenMounts : Type 0
 WrittenMounts =
     (block : ℕ) (lent zone : List ℕ) (v : SuperFields) (given finish : Bool) → Typed v → let o = formatOutcome block lent v given zone in
-    o .answer ≡ Formatted finish → (mountBlock : ℕ) (options report cnv seq : List ℕ) → AllElseGood mountBlock options (v .features) report cnv seq
-    → MountsWith v report cnv seq (mountOutcome mountBlock (o .block) options report cnv seq)
+    o .answer ≡ Formatted finish → (mountBlock : ℕ) (options report : List ℕ) (openLimit activeLimit : ℕ) (cnv seq : List ℕ)
+    → AllElseGood mountBlock options (v .features) report cnv seq
+    → MountsWith v report cnv seq (mountOutcome mountBlock (o .block) options report openLimit activeLimit cnv seq)
 
 -- the report of a disk that is zone 0 alone
 abbrev pub alone : Bool → List ℕ → List ℕ

@@ -19,12 +19,14 @@ use Rattle.types.specs.declared.Access.{Access}
 use Rattle.types.specs.declared.Answer.the-variants.{Issue}
 use Rattle.types.specs.Blocks.{bytesOf, onBlock}
 use Rattle.types.specs.Commands.{movementOf}
-use Rattle.types.specs.Predicates.{isNone}
-use Rattle.types.proofs.Tests.{and-right, or-left, or-right}
+use Rattle.types.specs.Predicates.{isNone, isWrite}
+use Rattle.types.proofs.Tests.{and-right, or-left, or-right, means-out}
+use Rattle.account.specs.Account.{isOpen}
+use Rattle.checks.specs.Checks.{openable}
 use Rattle.decision.specs.Decision.{unwritable, badTarget, misplaced, answerOn}
-use Rattle.decision.proofs.Laws.{read-issued, write-issued, truncate-issued, flush-issued}
-use Rattle.held.specs.Held.{reissue, issuable}
-use Rattle.held.proofs.Issuable.{issuable-call}
+use Rattle.decision.proofs.Laws.{read-issued, write-issued, truncate-issued, flush-issued, open-issued, close-issued}
+use Rattle.held.specs.Held.{reissue, stoodBefore, issuable}
+use Rattle.held.proofs.Issuable.{issuable-call, issuable-openable}
 use Rattle.held.proofs.Commands.{InFile, issuable-in}
 
 -- its address lies in the file
@@ -56,6 +58,11 @@ writable Access.Nothing e = e
 writable Access.Read e = refl
 writable Access.Write e = refl
 
+writing : (x : Access) → isWrite x ≡ true → isNone x ≡ false
+writing Access.Nothing e = absurd (false≢true e)
+writing Access.Read e = refl
+writing Access.Write e = refl
+
 truncates : (t : Bool) → movementOf (cond t kind.Reset kind.Finish) ≡ Advances → ⊥
 truncates true e = let x : _≡_ {A = ℕ} 0 1 = cc in omega arith
 truncates false e = let x : _≡_ {A = ℕ} 0 1 = cc in omega arith
@@ -70,8 +77,8 @@ no-target Sequential c t e f = let x : _≡_ {A = ℕ} 0 1 = cc in omega arith
 abbrev movementIn : Command → Movement
 movementIn c = movementOf (c .kind)
 
-issued-tells : (block : ℕ) (k : FileKind) (r : Row) (x : Call) (c : Command) → InFile r c → answerOn block k r x ≡ Issue c → Issued block k r c
-issued-tells block k r (Call.Read o n) c at g =
+issued-tells : (explicit : Bool) (block : ℕ) (k : FileKind) (r : Row) (x : Call) (c : Command) → openable r ≡ true → InFile r c → answerOn explicit block k r x ≡ Issue c → Issued block k r c
+issued-tells explicit block k r (Call.Read o n) c sure at g =
     let w = read-issued r o n c g in
     let still = ap movementIn (w .command) in
     record {
@@ -80,8 +87,8 @@ issued-tells block k r (Call.Read o n) c at g =
       placed = λ s v. absurd (stays (still ∙ v));
       untruncated = λ s d. absurd (d (sym still));
     }
-issued-tells block k r (Call.Write o n) c at g =
-    let w = write-issued block k r o n c g in
+issued-tells explicit block k r (Call.Write o n) c sure at g =
+    let w = write-issued explicit block k r o n c g in
     record {
       readable = writable (r .access) (w .checked .writable);
       within = address-within at;
@@ -98,7 +105,7 @@ issued-tells block k r (Call.Write o n) c at g =
           };
       untruncated = λ s d. sym (ap movementIn (w .command));
     }
-issued-tells block k r (Call.Truncate t) c at g =
+issued-tells explicit block k r (Call.Truncate t) c sure at g =
     let w = truncate-issued k r t c g in
     record {
       readable = writable (r .access) (w .writable);
@@ -106,7 +113,7 @@ issued-tells block k r (Call.Truncate t) c at g =
       placed = λ s v. absurd (truncates (eqb t 0) (ap movementIn (w .command) ∙ v));
       untruncated = λ s d. absurd (no-target k (r .capacity) t (w .good) s);
     }
-issued-tells block k r Call.Flush c at g =
+issued-tells explicit block k r Call.Flush c sure at g =
     let w = flush-issued r c g in
     let still = ap movementIn (w .command) in
     record {
@@ -115,6 +122,36 @@ issued-tells block k r Call.Flush c at g =
       placed = λ s v. absurd (stays (still ∙ v));
       untruncated = λ s d. absurd (d (sym still));
     }
+issued-tells explicit block k r Call.Open c sure at g =
+    let w = open-issued explicit k r c g in
+    let still = ap movementIn (w .command) in
+    record {
+      readable = writable (r .access) (w .writable);
+      within = address-within at;
+      placed = λ s v. absurd (stays (still ∙ v));
+      untruncated = λ s d. absurd (d (sym still));
+    }
+issued-tells explicit block k r Call.Close c sure at g =
+    let w = close-issued explicit k r c g in
+    let still = ap movementIn (w .command) in
+    let one : isOpen r ≡ true = rw (w .last) in
+    record {
+      readable = writing (r .access) (means-out (isOpen r) _ sure one);
+      within = address-within at;
+      placed = λ s v. absurd (stays (still ∙ v));
+      untruncated = λ s d. absurd (d (sym still));
+    }
 
-pub issuable-tells : (block : ℕ) (k : FileKind) (r : Row) (c : Command) → issuable block k r c ≡ true → Issued block k r c
-issuable-tells block k r c f = issued-tells block k r (reissue r c) c (issuable-in block k r c f) (issuable-call block k r c f)
+-- the file has its place whatever its opens
+stood-in : (r : Row) (c : Command) → InFile r c → InFile (stoodBefore r c) c
+stood-in r c at = record { low = at .low; high = at .high; first = at .first; none = at .none }
+
+pub issuable-tells : (explicit : Bool) (block : ℕ) (k : FileKind) (r : Row) (c : Command) → issuable explicit block k r c ≡ true → Issued block k r c
+issuable-tells explicit block k r c f =
+    let w = issued-tells explicit block k (stoodBefore r c) (reissue r c) c (issuable-openable explicit block k r c f) (stood-in r c (issuable-in explicit block k r c f)) (issuable-call explicit block k r c f) in
+    record {
+      readable = w .readable;
+      within = λ some. let v = w .within some in record { low = v .low; high = v .high };
+      placed = λ s v. let p = w .placed s v in record { place = p .place; room = p .room; whole = p .whole };
+      untruncated = w .untruncated;
+    }

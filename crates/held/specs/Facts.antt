@@ -9,6 +9,7 @@ use Rattle.types.specs.declared.Held.{Held}
 use Rattle.types.specs.declared.FileKind.{FileKind}
 use Rattle.types.specs.declared.Outstanding.the-variants.{Busy}
 use Rattle.types.specs.Blocks.{sectorBytes, goodBlock}
+use Rattle.account.specs.Facts.{Room}
 use Rattle.checks.specs.Facts.{Reached}
 use Rattle.held.specs.declared.Pending.{Pending}
 use Rattle.held.specs.declared.Pending.the-variants.{On, Refused}
@@ -17,7 +18,7 @@ use Rattle.held.specs.Held.{issuableOn}
 -- a completion is about this command and this row
 pub record Ready (m : Mount) (cnv seq : List ℕ) (h : Held) (r : Row) : Type 0 where
   pub held : r .outstanding ≡ Busy (h .command)
-  pub reached : Reached (m .volume) cnv seq (h .kind) (h .number) r
+  pub reached : Reached m cnv seq (h .kind) (h .number) r
   pub issued : issuableOn m h r ≡ true
 
 -- it is that of the named file
@@ -28,6 +29,7 @@ PendingTells m cnv seq k i (Refused x) = Unit
 -- then no sum on the row wraps
 pub record Safe (m : Mount) (h : Held) (r : Row) : Type 0 where
   pub block : goodBlock (m .volume .block) ≡ true
+  pub room : Room (m .account)
   pub ends : r .start + r .capacity / sectorBytes ≤ 2 ^ 40
   pub grows : r .size + h .command .length < 2 ^ 64
 

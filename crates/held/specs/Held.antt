@@ -1,5 +1,5 @@
 -- The held command of a completion. 02: "Completions check 10 (counts), 1, 8, 10 (row), 9." Here all but 9.
-use Prim.Native.Nat.{ℕ, _-_}
+use Prim.Native.Nat.{ℕ, _+_, _-_}
 use mathlib.Core.List.{List}
 use mathlib.Core.Bool.{Bool, false, cond, _&&_}
 use lib.ListN.{length}
@@ -19,14 +19,13 @@ use Rattle.types.specs.declared.Outstanding.{Outstanding}
 use Rattle.types.specs.declared.Outstanding.the-variants.{Idle, Busy, Unknown}
 use Rattle.types.specs.Blocks.{bytesOf}
 use Rattle.types.specs.Codes.{commandCode}
-use Rattle.table.specs.declared.Slot.{Slot}
-use Rattle.table.specs.Rows.{outstandingIn}
+use Rattle.table.specs.Rows.{outstandingIn, withOpens}
 use Rattle.checks.specs.declared.Lookup.{Lookup}
 use Rattle.checks.specs.declared.Lookup.the-variants as lookup
 use Rattle.checks.specs.declared.Checked.{Checked}
 use Rattle.checks.specs.declared.Checked.the-variants as checked
-use Rattle.checks.specs.Checks.{countsFit, lookupOf, soundSlot}
-use Rattle.decision.specs.Decision.{answerOn}
+use Rattle.checks.specs.Checks.{countsFit, lookupOf, openable, soundSlot}
+use Rattle.decision.specs.Decision.{answerOn, opensAfter}
 use Rattle.held.specs.declared.Pending.{Pending}
 use Rattle.held.specs.declared.Pending.the-variants.{On, Refused}
 
@@ -49,18 +48,36 @@ callFor r kind.Write offset length = Call.Write offset length
 callFor r kind.Reset offset length = Call.Truncate 0
 callFor r kind.Finish offset length = Call.Truncate (r .capacity)
 callFor r kind.Flush offset length = Call.Flush
+callFor r kind.Open offset length = Call.Open
+callFor r kind.Close offset length = Call.Close
 
 -- the call that would have issued the command
 abbrev pub reissue : Row → Command → Call
 reissue r c = callFor r (c .kind) (c .address - bytesOf (r .start)) (c .length)
 
--- some call on this row would issue the command, with the mount's block: the one that would have, made again. 02: "10's test of a held command
--- no longer looks at the read-only mark"
-unfoldable pub issuable : ℕ → FileKind → Row → Command → Bool
-issuable block k r c = issues (answerOn block k r (reissue r c)) c
+-- 02: "10 takes a held open or close as its file stood before that call", with one open less, or one more
+abbrev pub opensBefore : CommandKind → ℕ → ℕ
+opensBefore kind.Read opens = opens
+opensBefore kind.Write opens = opens
+opensBefore kind.Reset opens = opens
+opensBefore kind.Finish opens = opens
+opensBefore kind.Flush opens = opens
+opensBefore kind.Open opens = opens - 1
+opensBefore kind.Close opens = opens + 1
+
+abbrev pub stoodBefore : Row → Command → Row
+stoodBefore r c = withOpens r (opensBefore (c .kind) (r .opens))
+
+-- some call on the row as it stood before would issue the command, with the mount's option and block, and leave this row's opens: the call that
+-- would have, made again, on a row that has opens only with write access, as all others answer 10. 02: "account and limits aside", and "10's test of a
+-- held command no longer looks at the read-only mark"
+unfoldable pub issuable : Bool → ℕ → FileKind → Row → Command → Bool
+issuable explicit block k r c =
+    issues (answerOn explicit block k (stoodBefore r c) (reissue r c)) c
+    && eqb (opensAfter k (reissue r c) (stoodBefore r c .opens)) (r .opens) && openable (stoodBefore r c)
 
 abbrev pub issuableOn : Mount → Held → Row → Bool
-issuableOn m h r = issuable (m .volume .block) (h .kind) r (h .command)
+issuableOn m h r = issuable (m .volume .explicit) (m .volume .block) (h .kind) r (h .command)
 
 -- ---- 02: "Completions check 10 (counts), 1, 8, 10 (row), 9."
 
@@ -69,18 +86,22 @@ abbrev pub heldOn : Mount → Held → Checked → Pending
 heldOn m h (checked.Good r) = cond (issuableOn m h r) (On h r) (Refused refusal.Impossible)
 heldOn m h (checked.Refused x) = Refused refusal.Impossible
 
+-- a file's held command
+abbrev pub holdOf : FileKind → ℕ → Command → Held
+holdOf k i c = record { kind = k; number = i; command = c }
+
 -- 8, "completion with nothing outstanding", which is about the named file; a code that is no command's is outstanding, and then 10
 abbrev pub pendingBy : Mount → FileKind → ℕ → Checked → Outstanding → Pending
 pendingBy m k i file Idle = Refused refusal.NothingOutstanding
-pendingBy m k i file (Busy c) = heldOn m (record { kind = k; number = i; command = c }) file
+pendingBy m k i file (Busy c) = heldOn m (holdOf k i c) file
 pendingBy m k i file Unknown = Refused refusal.Impossible
 
 -- 1, "no such file"
 abbrev pub pendingIn : Mount → FileKind → ℕ → Lookup → Pending
-pendingIn m k i (lookup.Found x) = pendingBy m k i (soundSlot (m .volume .block) k x) (outstandingIn x)
+pendingIn m k i (lookup.Found x) = pendingBy m k i (soundSlot m k x) (outstandingIn x)
 pendingIn m k i lookup.Nothing = Refused refusal.NoFile
 
 -- the held command of file i of a kind with its row, or the refusal
 unfoldable pub pendingOf : Mount → List ℕ → List ℕ → FileKind → ℕ → Pending
 pendingOf m cnv seq k i =
-    cond (countsFit (m .volume) (length cnv) (length seq)) (pendingIn m k i (lookupOf (m .volume) cnv seq k i)) (Refused refusal.Impossible)
+    cond (countsFit m (length cnv) (length seq)) (pendingIn m k i (lookupOf (m .volume) cnv seq k i)) (Refused refusal.Impossible)

@@ -4,10 +4,9 @@ ghost use mathlib.Core.Bool.{true};
 ghost use Prim.Native.Nat.{_+_, _-_, _/_, _≤_, _^_};
 ghost use Rattle.types.specs.Blocks.{sectorBytes, goodBlock, bytesOf};
 ghost use Rattle.table.specs.Rows.{outstandingIn};
-ghost use Rattle.checks.specs.Checks.{soundSlot};
-ghost use Rattle.checks.specs.Facts.{Ends};
-ghost use Rattle.decision.specs.Decision.{answerOn};
-ghost use Rattle.held.specs.Held.{sameCommand, issues, callFor, issuable, heldOn, pendingBy, pendingOf};
+ghost use Rattle.checks.specs.Checks.{openable, soundSlot};
+ghost use Rattle.checks.specs.Facts.{Ends, Openable};
+ghost use Rattle.held.specs.Held.{sameCommand, issues, issuable, heldOn, pendingBy, pendingOf};
 ghost use Rattle.held.specs.Facts.{PendingTells};
 use checks::Checked;
 use checks::Lookup;
@@ -57,41 +56,38 @@ fn offset_from(start: u64, address: u64) -> u64
     if first <= address { address - first } else { 0 }
 }
 
-// What the call that would have issued a command of this kind answers on its row, made again. By the command's kind, and not by way of
-// `decision::dispatch`: a larger function with two callers would be a call of its own, which copies the row.
-fn answer_again(
-    block: u64,
-    kind: FileKind,
-    row: Row,
-    command: CommandKind,
-    offset: u64,
-    length: u64,
-) -> Answer
-    requires { ⌜ (goodBlock block ≡ true) × (row .start + row .capacity / sectorBytes ≤ 2 ^ 40) ⌝ }
-    ensures { λ r. ⌜ r ≡ answerOn block kind row (callFor row command offset length) ⌝ }
-{
-    match command {
-        CommandKind::Read => decision::read_row(row, offset, length),
-        CommandKind::Write => decision::write_row(block, kind, row, offset, length),
-        CommandKind::Reset => decision::truncate_row(kind, row, 0),
-        CommandKind::Finish => decision::truncate_row(kind, row, row.capacity),
-        CommandKind::Flush => decision::flush_row(row),
-    }
-}
-
-// Whether some call on this row would issue the command: the one that would have is made again. The read-only mark isn't looked at.
-fn is_issuable(block: u64, kind: FileKind, row: Row, c: Command) -> bool
-    requires { ⌜ (goodBlock block ≡ true) × (row .start + row .capacity / sectorBytes ≤ 2 ^ 40) ⌝ }
-    ensures { λ r. ⌜ r ≡ issuable block kind row c ⌝ }
+// Whether some call on this row would issue the command: the one that would have is made again, on the row as it stood before. Only a first open and a
+// last close are commanded: one finds a file without opens, the other with one. The read-only mark isn't looked at. By the command's kind, and not
+// by way of `decision::dispatch`: a larger function with two callers would be a call of its own, which copies the row.
+fn is_issuable(explicit: bool, block: u64, kind: FileKind, row: Row, c: Command) -> bool
+    requires { ⌜ (goodBlock block ≡ true) × ((row .start + row .capacity / sectorBytes ≤ 2 ^ 40) × (openable row ≡ true)) ⌝ }
+    ensures { λ r. ⌜ r ≡ issuable explicit block kind row c ⌝ }
 {
     let command = c.kind;
     let offset = offset_from(row.start, c.address);
-    let again = answer_again(block, kind, row, command, offset, c.length);
-    issues_it(again, c)
+    match command {
+        CommandKind::Read => issues_it(decision::read_row(row, offset, c.length), c),
+        CommandKind::Write => {
+            let again = decision::write_row(explicit, block, kind, row, offset, c.length);
+            issues_it(again, c)
+        }
+        CommandKind::Reset => issues_it(decision::truncate_row(kind, row, 0), c),
+        CommandKind::Finish => issues_it(decision::truncate_row(kind, row, row.capacity), c),
+        CommandKind::Flush => issues_it(decision::flush_row(row), c),
+        CommandKind::Open => {
+            let again = decision::open_row(explicit, kind, table::with_opens(row, 0));
+            issues_it(again, c) & (row.opens == 1)
+        }
+        CommandKind::Close => {
+            let again = decision::close_row(explicit, kind, table::with_opens(row, 1));
+            let a = row.access;
+            issues_it(again, c) & (row.opens == 0) & types::predicates::is_write(a)
+        }
+    }
 }
 
 fn held_on(m: Mount, h: Held, file: Checked) -> Pending
-    requires { ⌜ (goodBlock (m .volume .block) ≡ true) × Ends file ⌝ }
+    requires { ⌜ (goodBlock (m .volume .block) ≡ true) × (Ends file × Openable file) ⌝ }
     ensures { λ r. ⌜ r ≡ heldOn m h file ⌝ }
 {
     let kind = h.kind;
@@ -99,7 +95,7 @@ fn held_on(m: Mount, h: Held, file: Checked) -> Pending
     let v = m.volume;
     match file {
         Checked::Good(row) => {
-            if is_issuable(v.block, kind, row, command) {
+            if is_issuable(v.explicit, v.block, kind, row, command) {
                 Pending::On(h, row)
             } else {
                 Pending::Refused(Refusal::Impossible)
@@ -112,7 +108,7 @@ fn held_on(m: Mount, h: Held, file: Checked) -> Pending
 // Checks 8 and 10 of a file that was found: its row as its words say.
 fn slot_pending(m: Mount, kind: FileKind, number: u32, slot: Slot) -> Pending
     requires { ⌜ goodBlock (m .volume .block) ≡ true ⌝ }
-    ensures { λ r. ⌜ r ≡ pendingBy m kind number (soundSlot (m .volume .block) kind slot) (outstandingIn slot) ⌝ }
+    ensures { λ r. ⌜ r ≡ pendingBy m kind number (soundSlot m kind slot) (outstandingIn slot) ⌝ }
 {
     let v = m.volume;
     match table::outstanding_in(slot) {
@@ -123,7 +119,8 @@ fn slot_pending(m: Mount, kind: FileKind, number: u32, slot: Slot) -> Pending
                 number,
                 command,
             };
-            held_on(m, h, checks::sound_slot(v.block, kind, slot))
+            let ruled = checks::ruled_slot(v.block, kind, slot);
+            held_on(m, h, checks::counted_file(m, kind, ruled))
         }
         Outstanding::Unknown => Pending::Refused(Refusal::Impossible),
     }
@@ -133,11 +130,10 @@ fn slot_pending(m: Mount, kind: FileKind, number: u32, slot: Slot) -> Pending
 fn check_pending(m: Mount, cnv: &[u64], seq: &[u64], kind: FileKind, number: u32) -> Pending
     ensures { λ r. ⌜ r ≡ pendingOf m (now (cnv .entry)) (now (seq .entry)) kind number ⌝ }
 {
-    let v = m.volume;
-    if !checks::counts_fit(v, cnv.len(), seq.len()) {
+    if !checks::counts_fit(m, cnv.len(), seq.len()) {
         return Pending::Refused(Refusal::Impossible);
     }
-    let Lookup::Found(slot) = checks::lookup_of(v, cnv, seq, kind, number) else {
+    let Lookup::Found(slot) = checks::lookup_of(m, cnv, seq, kind, number) else {
         return Pending::Refused(Refusal::NoFile);
     };
     slot_pending(m, kind, number, slot)

@@ -3,7 +3,7 @@ use Prim.Native.Nat.{ℕ}
 use mathlib.Core.List.{List}
 use mathlib.Core.Bool.{cond}
 use lib.ListN.{length}
-use Rattle.types.specs.declared.Volume.{Volume}
+use Rattle.types.specs.declared.Mount.{Mount}
 use Rattle.types.specs.declared.FileKind.{FileKind}
 use Rattle.types.specs.declared.Refusal.the-variants as refusal
 use Rattle.types.specs.declared.FindAnswer.{FindAnswer}
@@ -20,11 +20,11 @@ foundFile k n (checked.Good r) = find.Found k n
 foundFile k n (checked.Refused x) = find.Refused x
 
 -- 1: "no such .. name"; then as of the file
-abbrev pub foundName : Volume → List ℕ → List ℕ → Name → FindAnswer
-foundName v cnv seq (Found k n) = foundFile k n (fileOf v cnv seq k n)
-foundName v cnv seq Nothing = find.Refused refusal.NoFile
+abbrev pub foundName : Mount → List ℕ → List ℕ → Name → FindAnswer
+foundName m cnv seq (Found k n) = foundFile k n (fileOf m cnv seq k n)
+foundName m cnv seq Nothing = find.Refused refusal.NoFile
 
 -- 10 (counts), 1, 10 (row), "stops before 2"
-abbrev pub findOf : Volume → List ℕ → List ℕ → List ℕ → FindAnswer
-findOf v cnv seq name =
-    cond (countsFit v (length cnv) (length seq)) (foundName v cnv seq (named v name)) (find.Refused refusal.Impossible)
+abbrev pub findOf : Mount → List ℕ → List ℕ → List ℕ → FindAnswer
+findOf m cnv seq name =
+    cond (countsFit m (length cnv) (length seq)) (foundName m cnv seq (named (m .volume) name)) (find.Refused refusal.Impossible)

@@ -35,9 +35,9 @@ shown m (checked.Refused x) = Refused x
 
 -- 10 (counts), 1, 10 (row), "stops before 2"
 abbrev pub showOf : Mount → List ℕ → List ℕ → FileKind → ℕ → ShowAnswer
-showOf m cnv seq k i = shown m (fileOf (m .volume) cnv seq k i)
+showOf m cnv seq k i = shown m (fileOf m cnv seq k i)
 
 -- of a kind that is given as a number: "kind byte 0 cnv or 1 seq", "a kind above 1 answers 1"
 unfoldable pub showBy : Mount → List ℕ → List ℕ → ℕ → ℕ → ShowAnswer
 showBy m cnv seq n i =
-    cond (isKind n) (showOf m cnv seq (kindFrom n) i) (Refused (noKind (m .volume) (length cnv) (length seq)))
+    cond (isKind n) (showOf m cnv seq (kindFrom n) i) (Refused (noKind m (length cnv) (length seq)))

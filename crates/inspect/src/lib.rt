@@ -27,19 +27,18 @@ fn found_file(kind: FileKind, number: u32, file: Checked) -> FindAnswer
 
 // The file of a name.
 pub fn find(m: Mount, cnv: &[u64], seq: &[u64], name: &[u8]) -> FindAnswer
-    ensures { λ r. ⌜ r ≡ findOf (m .volume) (now (cnv .entry)) (now (seq .entry)) (now (name .entry)) ⌝ }
+    ensures { λ r. ⌜ r ≡ findOf m (now (cnv .entry)) (now (seq .entry)) (now (name .entry)) ⌝ }
 {
-    let v = m.volume;
-    if !checks::counts_fit(v, cnv.len(), seq.len()) {
+    if !checks::counts_fit(m, cnv.len(), seq.len()) {
         return FindAnswer::Refused(Refusal::Impossible);
     }
     let Name::Found(kind, number) = names::name_read(name) else {
         return FindAnswer::Refused(Refusal::NoFile);
     };
-    let Lookup::Found(slot) = checks::lookup_of(v, cnv, seq, kind, number) else {
+    let Lookup::Found(slot) = checks::lookup_of(m, cnv, seq, kind, number) else {
         return FindAnswer::Refused(Refusal::NoFile);
     };
-    found_file(kind, number, checks::sound_slot(v.block, kind, slot))
+    found_file(kind, number, checks::sound_slot(m, kind, slot))
 }
 
 fn less_writing(mode: u32) -> u32
@@ -75,14 +74,13 @@ fn shown(m: Mount, file: Checked) -> ShowAnswer
 pub fn show(m: Mount, cnv: &[u64], seq: &[u64], kind: FileKind, number: u32) -> ShowAnswer
     ensures { λ r. ⌜ r ≡ showOf m (now (cnv .entry)) (now (seq .entry)) kind number ⌝ }
 {
-    let v = m.volume;
-    if !checks::counts_fit(v, cnv.len(), seq.len()) {
+    if !checks::counts_fit(m, cnv.len(), seq.len()) {
         return ShowAnswer::Refused(Refusal::Impossible);
     }
-    let Lookup::Found(slot) = checks::lookup_of(v, cnv, seq, kind, number) else {
+    let Lookup::Found(slot) = checks::lookup_of(m, cnv, seq, kind, number) else {
         return ShowAnswer::Refused(Refusal::NoFile);
     };
-    shown(m, checks::sound_slot(v.block, kind, slot))
+    shown(m, checks::sound_slot(m, kind, slot))
 }
 
 // The same of a file whose kind is given as a number.
@@ -92,7 +90,6 @@ pub fn show_by(m: Mount, cnv: &[u64], seq: &[u64], kind: u64, number: u32) -> Sh
     if types::codes::is_kind(kind) {
         show(m, cnv, seq, types::codes::kind_from(kind), number)
     } else {
-        let v = m.volume;
-        ShowAnswer::Refused(checks::no_kind(v, cnv.len(), seq.len()))
+        ShowAnswer::Refused(checks::no_kind(m, cnv.len(), seq.len()))
     }
 }

@@ -1,29 +1,30 @@
--- A mount value is within its types: its numbers of files by the report's header, and what the super block gives by its bytes.
+-- A mount value is within its types: its numbers of files by the report's header, what the super block gives by its bytes, and its account by both
+-- limits.
 -- Assumes nothing.
 use mathlib.Core.Path.{_≡_, refl}
 use mathlib.Core.List.{List}
-use Prim.Native.Nat.{ℕ, _≤_, _<_}
+use Prim.Native.Nat.{ℕ, _≤_, _<_, _^_}
 use native.Mathlib.Omega.{arith}
-use lib.ListN.{length, getD, drop, length-drop}
+use lib.ListN.{getD}
 use Rattle.types.specs.Blocks.{mostFiles}
+use Rattle.types.specs.declared.Account.{Account}
 use Rattle.types.specs.declared.MountAnswer.{MountAnswer}
 use Rattle.types.specs.declared.MountAnswer.the-variants.{Refused, Mounted}
-use Rattle.types.specs.declared.ErrorPolicy.{ErrorPolicy}
 use Rattle.types.proofs.Volumes.{BoundedVolume}
+use Rattle.account.specs.Account.{isActive}
+use Rattle.account.proofs.Laws.{Small, count-most}
 use Rattle.superblock.specs.declared.SuperBlock.{SuperBlock}
 use Rattle.superblock.proofs.Bounds.{zero-bytes, BoundedFields, fields-bounded}
-use Rattle.files.proofs.Few.{seqs-few, cnvs-few}
-use Rattle.report.specs.Report.{zonesOf}
-use Rattle.report.proofs.Laws.{report-told, framed, zones-length}
-use Rattle.mount.specs.Mount.{fileZones, mountOf, aggregated, mountAnswer, mountOutcome}
-use Rattle.mount.proofs.Mounted.{mounted-told}
+use Rattle.options.specs.declared.Options.{Options}
+use Rattle.mount.specs.Mount.{explicitOf, mountOf, mountAnswer, mountOutcome}
+use Rattle.mount.proofs.Mounted.{answer-few, mounted-told}
 
 -- THE MOUNT VALUE
 
-of-bounded : (x : MountAnswer) (block : ℕ) (f : SuperBlock) (p : ErrorPolicy) → BoundedFields f
-    → ((c s : ℕ) → x ≡ Mounted c s → (c ≤ mostFiles) × (s ≤ mostFiles)) → BoundedVolume (mountOf x block f p .volume)
+of-bounded : (x : MountAnswer) (block : ℕ) (f : SuperBlock) (o : Options) (openLimit activeLimit : ℕ) (seq : List ℕ) → BoundedFields f
+    → ((c s : ℕ) → x ≡ Mounted c s → (c ≤ mostFiles) × (s ≤ mostFiles)) → BoundedVolume (mountOf x block f o openLimit activeLimit seq .volume)
 unfolding mountOf
-of-bounded (Refused x) block f p fields few =
+of-bounded (Refused x) block f o openLimit activeLimit seq fields few =
     record {
       conventional = omega arith;
       sequential = omega arith;
@@ -33,7 +34,7 @@ of-bounded (Refused x) block f p fields few =
       bytes = zero-bytes 16;
       sixteen = refl;
     }
-of-bounded (Mounted c s) block f p fields few =
+of-bounded (Mounted c s) block f o openLimit activeLimit seq fields few =
     record {
       conventional = omega (arith, few c s refl .0);
       sequential = omega (arith, few c s refl .1);
@@ -44,19 +45,31 @@ of-bounded (Mounted c s) block f p fields few =
       sixteen = fields .sixteen;
     }
 
-module _ (block : ℕ) (superblock options report cnv seq : List ℕ) where
-  -- zone 0 is no file's, so there is one file less than there can be zones
-  pub files-few : (c s : ℕ) → mountOutcome block superblock options report cnv seq .answer ≡ Mounted c s → (c ≤ mostFiles) × (s ≤ mostFiles)
-  unfolding fileZones
-  files-few c s e =
-      let t = mounted-told block superblock options report cnv seq c s e in
-      let few = framed report (report-told _ report (t .report) .header) .few in
-      let zs = drop 1 (zonesOf report) in
-      let files : length zs ≤ mostFiles = omega (arith, length-drop 1 (zonesOf report), zones-length report) in
-      (omega (arith, t .cnvs, cnvs-few (aggregated superblock) zs), omega (arith, t .seqs, seqs-few zs))
+-- numbers of 32 bits
+abbrev pub ShortAccount : Account → Type 0
+ShortAccount a = Small a × (a .«open_limit» < 2 ^ 32) × (a .«active_limit» < 2 ^ 32)
+
+of-short : (x : MountAnswer) (block : ℕ) (f : SuperBlock) (o : Options) (openLimit activeLimit : ℕ) (seq : List ℕ)
+    → openLimit < 2 ^ 32 → activeLimit < 2 ^ 32 → ((c s : ℕ) → x ≡ Mounted c s → (c ≤ mostFiles) × (s ≤ mostFiles))
+    → ShortAccount (mountOf x block f o openLimit activeLimit seq .account)
+unfolding mountOf
+of-short (Refused x) block f o openLimit activeLimit seq first second few =
+    (record { opened = omega arith; active = omega arith }, omega arith, omega arith)
+of-short (Mounted c s) block f o openLimit activeLimit seq first second few =
+    (record { opened = omega arith; active = omega (arith, count-most (isActive (explicitOf o)) seq s, few c s refl .1) }, first, second)
+
+module _ (block : ℕ) (superblock options report : List ℕ) (openLimit activeLimit : ℕ) (cnv seq : List ℕ) where
+  pub files-few : (c s : ℕ) → mountOutcome block superblock options report openLimit activeLimit cnv seq .answer ≡ Mounted c s → (c ≤ mostFiles) × (s ≤ mostFiles)
+  files-few c s e = answer-few _ _ _ _ _ _ _ c s (mounted-told block superblock options report openLimit activeLimit cnv seq c s e)
 
   pub mount-bounded : ((k : ℕ) → getD superblock k 0 < 256)
-      → BoundedVolume (mountOutcome block superblock options report cnv seq .mount .volume)
+      → BoundedVolume (mountOutcome block superblock options report openLimit activeLimit cnv seq .mount .volume)
   unfolding mountOutcome
   mount-bounded bytes =
-      of-bounded (mountAnswer block superblock options report cnv seq) block _ _ (fields-bounded superblock bytes) files-few
+      of-bounded (mountAnswer block superblock options report openLimit activeLimit cnv seq) block _ _ _ _ _ (fields-bounded superblock bytes) files-few
+
+  pub account-short : openLimit < 2 ^ 32 → activeLimit < 2 ^ 32
+      → ShortAccount (mountOutcome block superblock options report openLimit activeLimit cnv seq .mount .account)
+  unfolding mountOutcome
+  account-short first second =
+      of-short (mountAnswer block superblock options report openLimit activeLimit cnv seq) block _ _ _ _ _ first second files-few

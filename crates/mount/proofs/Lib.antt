@@ -1,4 +1,5 @@
 pub mod Bounds
+pub mod Counted
 pub mod Filling
 pub mod Leaves
 pub mod Mounted

@@ -6,14 +6,13 @@ use mathlib.Core.Bool.{Bool, true, false, not}
 use Prim.Native.Nat.{ℕ, _≤_}
 use native.Mathlib.Omega.{arith}
 use borrow.Author.Tests.{ltb-false, not-false, le-ltb}
-use lib.ListN.{length}
+use lib.ListN.{length, drop, length-drop}
 use lib.Dec.{ltb}
-use Rattle.types.specs.Blocks.{blockSectors, goodBlock}
+use Rattle.types.specs.Blocks.{blockSectors, goodBlock, mostFiles}
 use Rattle.types.specs.Verdicts.{refuse, andThen}
 use Rattle.types.specs.declared.Refusal.the-variants.{BadBlock, BadOptions, TooFewRows}
 use Rattle.types.specs.declared.Verdict.{Verdict}
 use Rattle.types.specs.declared.Verdict.the-variants as verdict
-use Rattle.types.specs.declared.ErrorPolicy.{ErrorPolicy}
 use Rattle.types.specs.declared.Mount.{Mount}
 use Rattle.types.specs.declared.MountAnswer.{MountAnswer}
 use Rattle.types.specs.declared.MountAnswer.the-variants.{Refused, Mounted}
@@ -28,16 +27,17 @@ use Rattle.options.specs.declared.Options.the-variants as options
 use Rattle.files.specs.declared.Walk.{Walk}
 use Rattle.files.specs.Files.{cnvRows, seqRows}
 use Rattle.files.specs.Walk.{begun, walked, cnvFiles}
+use Rattle.files.proofs.Few.{seqs-few, cnvs-few}
 use Rattle.files.proofs.Walks.{cnv-count, seq-count}
 use Rattle.report.specs.Report.{zonesOf, reportCheck}
-use Rattle.report.proofs.Laws.{report-told, framed, all-bounded}
-use Rattle.mount.specs.Mount.{badOptions, fileZones, tooFew, openingCheck, filesCheck, mountCheck, answerFor, mountAnswerOf, policyOf, mountOf, tableAfter, aggregated, mountAnswer, mountOutcome}
+use Rattle.report.proofs.Laws.{report-told, framed, all-bounded, zones-length}
+use Rattle.mount.specs.Mount.{badOptions, fileZones, tooFew, openingCheck, filesCheck, mountCheck, answerFor, mountAnswerOf, policyOf, explicitOf, mountOf, tableAfter, aggregated, mountAnswer, mountOutcome}
 use Rattle.mount.specs.Facts.{Fits}
 
 -- THE CHECKS, passed
 
-options-told : (o : Options) → badOptions o ≡ false → o ≡ options.Policy (policyOf o)
-options-told (options.Policy p) h = refl
+options-told : (o : Options) → badOptions o ≡ false → o ≡ options.Good (record { policy = policyOf o; explicit = explicitOf o })
+options-told (options.Good a) h = refl
 options-told options.Bad h = let z : _≡_ {A = ℕ} 0 1 = cc in absurd (omega arith)
 
 pub opening-block : (block : ℕ) (found : Verdict) (o : Options) → openingCheck block found o ≡ verdict.Passed → goodBlock block ≡ true
@@ -74,7 +74,7 @@ files-answer block aggregate b cnvRoom seqRoom found w e h =
 pub record Accepted (block : ℕ) (found : Verdict) (parsed : Options) (aggregate : Bool) (b : List ℕ) (cnvRoom seqRoom c s : ℕ) : Type 0 where
   pub unit : goodBlock block ≡ true
   pub super : found ≡ verdict.Passed
-  pub options : parsed ≡ options.Policy (policyOf parsed)
+  pub options : parsed ≡ options.Good (record { policy = policyOf parsed; explicit = explicitOf parsed })
   pub report : reportCheck (blockSectors block) b ≡ verdict.Passed
   pub cnvs : c ≡ length (cnvRows aggregate (fileZones b))
   pub seqs : s ≡ length (seqRows (fileZones b))
@@ -130,30 +130,39 @@ module _ (block : ℕ) (found : Verdict) (parsed : Options) (aggregate : Bool) (
         seqs = omega (arith, a .seqs, a .seqFit);
       }
 
+  -- zone 0 is no file's, so there is one file less than there can be zones
+  pub answer-few : Accepted block found parsed aggregate b cnvRoom seqRoom c s → (c ≤ mostFiles) × (s ≤ mostFiles)
+  unfolding fileZones
+  answer-few a =
+      let few = framed b (report-told _ b (a .report) .header) .few in
+      let zs = drop 1 (zonesOf b) in
+      let files : length zs ≤ mostFiles = omega (arith, length-drop 1 (zonesOf b), zones-length b) in
+      (omega (arith, a .cnvs, cnvs-few aggregate zs), omega (arith, a .seqs, seqs-few zs))
+
 -- THE OUTCOME, from its parts as the code finds them
-pub outcome-is : (block : ℕ) (sb text b cnv seq : List ℕ)
-    {read : SuperRead} {parsed : Options} {cnvs seqs : ℕ} {answer : MountAnswer} {policy : ErrorPolicy} {mount : Mount} {cnv′ seq′ : List ℕ}
-    → read ≡ superRead sb → parsed ≡ optionsOf text → cnvs ≡ rowsLent (length cnv) → seqs ≡ rowsLent (length seq)
-    → answer ≡ mountAnswerOf block (read .check) parsed (read .fields .aggregate) b cnvs seqs
-    → policy ≡ policyOf parsed → mount ≡ mountOf answer block (read .fields) policy
-    → cnv′ ≡ tableAfter answer cnv (cnvRows (read .fields .aggregate) (fileZones b))
-    → seq′ ≡ tableAfter answer seq (seqRows (fileZones b))
-    → (answer ≡ mountOutcome block sb text b cnv seq .answer) × (mount ≡ mountOutcome block sb text b cnv seq .mount)
-    × (cnv′ ≡ mountOutcome block sb text b cnv seq .cnv) × (seq′ ≡ mountOutcome block sb text b cnv seq .seq)
-unfolding mountOutcome mountAnswer
-outcome-is block sb text b cnv seq {answer = answer} r p c s a q m t u =
-    let answered : answer ≡ mountAnswer block sb text b cnv seq = cc in
-    (answered, cc, cc, cc)
+module _ (block : ℕ) (sb text b : List ℕ) (openLimit activeLimit : ℕ) (cnv seq : List ℕ) where
+  pub outcome-is : {read : SuperRead} {parsed : Options} {cnvs seqs : ℕ} {answer : MountAnswer} {mount : Mount} {cnv′ seq′ : List ℕ}
+      → read ≡ superRead sb → parsed ≡ optionsOf text → cnvs ≡ rowsLent (length cnv) → seqs ≡ rowsLent (length seq)
+      → answer ≡ mountAnswerOf block (read .check) parsed (read .fields .aggregate) b cnvs seqs
+      → cnv′ ≡ tableAfter answer cnv (cnvRows (read .fields .aggregate) (fileZones b))
+      → seq′ ≡ tableAfter answer seq (seqRows (fileZones b))
+      → mount ≡ mountOf answer block (read .fields) parsed openLimit activeLimit seq′
+      → (answer ≡ mountOutcome block sb text b openLimit activeLimit cnv seq .answer) × (mount ≡ mountOutcome block sb text b openLimit activeLimit cnv seq .mount)
+      × (cnv′ ≡ mountOutcome block sb text b openLimit activeLimit cnv seq .cnv) × (seq′ ≡ mountOutcome block sb text b openLimit activeLimit cnv seq .seq)
+  unfolding mountOutcome mountAnswer
+  outcome-is {answer = answer} r p c s a t u m =
+      let answered : answer ≡ mountAnswer block sb text b openLimit activeLimit cnv seq = cc in
+      (answered, cc, cc, cc)
 
 -- AN OUTCOME OF 0, and what gives it
 
-module _ (block : ℕ) (sb text b cnv seq : List ℕ) (c s : ℕ) where
-  pub mounted-told : mountOutcome block sb text b cnv seq .answer ≡ Mounted c s
+module _ (block : ℕ) (sb text b : List ℕ) (openLimit activeLimit : ℕ) (cnv seq : List ℕ) (c s : ℕ) where
+  pub mounted-told : mountOutcome block sb text b openLimit activeLimit cnv seq .answer ≡ Mounted c s
       → Accepted block (superRead sb .check) (optionsOf text) (aggregated sb) b (rowsLent (length cnv)) (rowsLent (length seq)) c s
   unfolding mountOutcome mountAnswer
   mounted-told answered = answer-told block _ _ _ b _ _ c s answered
 
   pub mounted-given : Accepted block (superRead sb .check) (optionsOf text) (aggregated sb) b (rowsLent (length cnv)) (rowsLent (length seq)) c s
-      → mountOutcome block sb text b cnv seq .answer ≡ Mounted c s
+      → mountOutcome block sb text b openLimit activeLimit cnv seq .answer ≡ Mounted c s
   unfolding mountOutcome mountAnswer
   mounted-given a = answer-given block _ _ _ b _ _ c s a

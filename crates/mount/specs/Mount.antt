@@ -13,10 +13,14 @@ use Rattle.types.specs.declared.Verdict.the-variants as verdict
 use Rattle.types.specs.declared.Row.{Row}
 use Rattle.types.specs.declared.ErrorPolicy.{ErrorPolicy}
 use Rattle.types.specs.declared.ErrorPolicy.the-variants.{RemountRo}
+use Rattle.types.specs.declared.Account.{Account}
+use Rattle.types.specs.declared.Volume.{Volume}
 use Rattle.types.specs.declared.Mount.{Mount}
 use Rattle.types.specs.declared.MountAnswer.{MountAnswer}
 use Rattle.types.specs.declared.MountAnswer.the-variants.{Refused, Mounted}
 use Rattle.table.specs.Rows.{rowsLent}
+use Rattle.account.specs.Account.{isActive}
+use Rattle.account.specs.Counts.{countIn}
 use Rattle.superblock.specs.declared.SuperBlock.{SuperBlock}
 use Rattle.superblock.specs.SuperBlock.{superRead}
 use Rattle.options.specs.declared.Options.{Options}
@@ -30,7 +34,7 @@ use Rattle.mount.specs.Fill.{fill}
 -- ---- the checks
 
 abbrev pub badOptions : Options → Bool
-badOptions (options.Policy p) = false
+badOptions (options.Good a) = false
 badOptions options.Bad = true
 
 -- "Zone 0 never"
@@ -70,25 +74,42 @@ mountAnswerOf block found options aggregate b cnvRoom seqRoom =
 
 -- bad options have none; the mount is refused then
 abbrev pub policyOf : Options → ErrorPolicy
-policyOf (options.Policy p) = p
+policyOf (options.Good a) = a .policy
 policyOf options.Bad = RemountRo
 
--- the mount value, which is not read-only; its rows have nothing outstanding
-unfoldable pub mountOf : MountAnswer → ℕ → SuperBlock → ErrorPolicy → Mount
-mountOf (Refused x) block fields policy = emptyMount
-mountOf (Mounted cnvs seqs) block fields policy =
+abbrev pub explicitOf : Options → Bool
+explicitOf (options.Good a) = a .explicit
+explicitOf options.Bad = false
+
+-- 02: "The mount keeps one small running account": none is open, so many files are active, and "two limits given at mount (0 means none)"
+abbrev pub accountOf : ℕ → ℕ → ℕ → Account
+accountOf active openLimit activeLimit =
+    record { opened = 0; active = active; «open_limit» = openLimit; «active_limit» = activeLimit }
+
+-- what it fixes, with so many files
+abbrev pub volumeOf : ℕ → ℕ → ℕ → SuperBlock → Options → Volume
+volumeOf cnvs seqs block fields options =
     record {
-      volume = record {
-        block = block;
-        conventional = cnvs;
-        sequential = seqs;
-        owner = fields .owner;
-        group = fields .group;
-        mode = fields .mode;
-        policy = policy;
-        uuid = fields .uuid;
-      };
+      block = block;
+      conventional = cnvs;
+      sequential = seqs;
+      owner = fields .owner;
+      group = fields .group;
+      mode = fields .mode;
+      policy = policyOf options;
+      explicit = explicitOf options;
+      uuid = fields .uuid;
+    }
+
+-- the mount value, which is not read-only; its rows have nothing outstanding. Active are those of its sequential files, in the table that it leaves,
+-- whose rows say so
+unfoldable pub mountOf : MountAnswer → ℕ → SuperBlock → Options → ℕ → ℕ → List ℕ → Mount
+mountOf (Refused x) block fields options openLimit activeLimit seq = emptyMount
+mountOf (Mounted cnvs seqs) block fields options openLimit activeLimit seq =
+    record {
+      volume = volumeOf cnvs seqs block fields options;
       readonly = false;
+      account = accountOf (countIn (isActive (explicitOf options)) seq seqs) openLimit activeLimit;
     }
 
 -- a refused mount changes nothing
@@ -106,16 +127,19 @@ pub record Mounting : Type 0 where
 abbrev pub aggregated : List ℕ → Bool
 aggregated superblock = superRead superblock .fields .aggregate
 
-module _ (block : ℕ) (superblock options report cnv seq : List ℕ) where
+module _ (block : ℕ) (superblock options report : List ℕ) (openLimit activeLimit : ℕ) (cnv seq : List ℕ) where
   unfoldable pub mountAnswer : MountAnswer
   mountAnswer =
       mountAnswerOf block (superRead superblock .check) (optionsOf options) (aggregated superblock) report (rowsLent (length cnv)) (rowsLent (length seq))
+
+  abbrev pub seqAfter : List ℕ
+  seqAfter = tableAfter mountAnswer seq (seqRows (fileZones report))
 
   unfoldable pub mountOutcome : Mounting
   mountOutcome =
       record {
         answer = mountAnswer;
-        mount = mountOf mountAnswer block (superRead superblock .fields) (policyOf (optionsOf options));
+        mount = mountOf mountAnswer block (superRead superblock .fields) (optionsOf options) openLimit activeLimit seqAfter;
         cnv = tableAfter mountAnswer cnv (cnvRows (aggregated superblock) (fileZones report));
-        seq = tableAfter mountAnswer seq (seqRows (fileZones report));
+        seq = seqAfter;
       }

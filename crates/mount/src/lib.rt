@@ -3,7 +3,7 @@ ghost use mathlib.Core.Path.{_≡_};
 ghost use mathlib.Core.Bool.{true, cond};
 ghost use Prim.Native.Nat.{ℕ, _+_, _≤_, _^_};
 ghost use lib.ListN.{length};
-ghost use Rattle.types.specs.Blocks.{goodBlock};
+ghost use Rattle.types.specs.Blocks.{goodBlock, mostFiles};
 ghost use Rattle.types.specs.Codes.{flagCode};
 ghost use Rattle.types.specs.declared.MountAnswer.the-variants.{Mounted};
 ghost use Rattle.table.specs.Rows.{rowsLent, setRow};
@@ -11,12 +11,13 @@ ghost use Rattle.zones.specs.Facts.{Bounded};
 ghost use Rattle.files.specs.Files.{seqRow, seqRows, cnvRows};
 ghost use Rattle.files.specs.Walk.{rowOfRun, isSeqFile};
 ghost use Rattle.mount.specs.Fill.{fill};
-ghost use Rattle.mount.specs.Mount.{badOptions, fileZones, openingCheck, filesCheck, answerFor, mountAnswerOf, policyOf, mountOf, tableAfter, mountOutcome};
+ghost use Rattle.mount.specs.Mount.{badOptions, fileZones, openingCheck, filesCheck, answerFor, mountAnswerOf, policyOf, explicitOf, accountOf, volumeOf, mountOf, tableAfter, mountOutcome};
 ghost use Rattle.mount.specs.Facts.{Fits};
 use files::Run;
 use files::Walk;
 use options::Options;
 use superblock::SuperBlock;
+use types::Account;
 use types::ErrorPolicy;
 use types::Mount;
 use types::MountAnswer;
@@ -32,7 +33,7 @@ fn bad_options(parsed: Options) -> bool
     ensures { λ r. ⌜ r ≡ badOptions parsed ⌝ }
 {
     match parsed {
-        Options::Policy(_) => false,
+        Options::Good(_) => false,
         Options::Bad => true,
     }
 }
@@ -144,55 +145,100 @@ fn fill_tables(answer: MountAnswer, aggregate: bool, b: &[u8], cnv: &mut [u64], 
     }
 }
 
-// The policy that options name. Bad ones name none, and the mount is refused.
+// What options ask for. Bad ones ask for nothing, and the mount is refused.
 fn policy_of(parsed: Options) -> ErrorPolicy
     ensures { λ r. ⌜ r ≡ policyOf parsed ⌝ }
 {
     match parsed {
-        Options::Policy(p) => p,
+        Options::Good(asked) => asked.policy,
         Options::Bad => ErrorPolicy::RemountRo,
     }
 }
 
-// The mount value: a refused mount hands out the empty one.
-fn mount_of(answer: MountAnswer, block: u64, fields: SuperBlock, policy: ErrorPolicy) -> Mount
-    ensures { λ r. ⌜ r ≡ mountOf answer block fields policy ⌝ }
+fn explicit_of(parsed: Options) -> bool
+    ensures { λ r. ⌜ r ≡ explicitOf parsed ⌝ }
+{
+    match parsed {
+        Options::Good(asked) => asked.explicit,
+        Options::Bad => false,
+    }
+}
+
+// The account of a new mount: no file is open.
+fn account_of(active: u32, open_limit: u32, active_limit: u32) -> Account
+    ensures { λ r. ⌜ r ≡ accountOf active «open_limit» «active_limit» ⌝ }
+{
+    Account {
+        opened: 0,
+        active,
+        open_limit,
+        active_limit,
+    }
+}
+
+// What a mount fixes, with so many files.
+fn volume_of(cnvs: u32, seqs: u32, block: u64, fields: SuperBlock, parsed: Options) -> Volume
+    ensures { λ r. ⌜ r ≡ volumeOf cnvs seqs block fields parsed ⌝ }
+{
+    let policy = policy_of(parsed);
+    let explicit = explicit_of(parsed);
+    let uuid = fields.uuid;
+    Volume {
+        block,
+        conventional: cnvs,
+        sequential: seqs,
+        owner: fields.owner,
+        group: fields.group,
+        mode: fields.mode,
+        policy,
+        explicit,
+        uuid,
+    }
+}
+
+// The mount value: a refused mount hands out the empty one. The active files are counted in the table that the mount has filled.
+fn mount_of(
+    answer: MountAnswer,
+    block: u64,
+    fields: SuperBlock,
+    parsed: Options,
+    open_limit: u32,
+    active_limit: u32,
+    seq: &[u64],
+) -> Mount
+    requires { ⌜ ((c s : ℕ) → answer ≡ Mounted c s → (s ≤ mostFiles) × (s ≤ rowsLent (length (now seq)))) ⌝ }
+    ensures { λ r. ⌜ r ≡ mountOf answer block fields parsed «open_limit» «active_limit» (now (seq .entry)) ⌝ }
 {
     match answer {
         MountAnswer::Refused(_) => types::mounts::empty_mount(),
         MountAnswer::Mounted(cnvs, seqs) => {
-            let uuid = fields.uuid;
-            let volume = Volume {
-                block,
-                conventional: cnvs,
-                sequential: seqs,
-                owner: fields.owner,
-                group: fields.group,
-                mode: fields.mode,
-                policy,
-                uuid,
-            };
+            let volume = volume_of(cnvs, seqs, block, fields, parsed);
+            let active = account::count_active(volume.explicit, seq, seqs);
+            let account = account_of(active, open_limit, active_limit);
             Mount {
                 volume,
                 readonly: false,
+                account,
             }
         }
     }
 }
 
-// Mounts: checks what is lent, fills the tables with the rows of the report's files, and hands out the mount value.
+// Mounts: checks what is lent, fills the tables with the rows of the report's files, and hands out the mount value. A limit of 0 is none.
 pub fn mount(
     block: u64,
     superblock: &[u8],
     options: &[u8],
     report: &[u8],
+    open_limit: u32,
+    active_limit: u32,
     cnv: &mut [u64],
     seq: &mut [u64],
 ) -> MountOutcome
-    ensures answer { λ r. ⌜ r .answer ≡ mountOutcome block (now (superblock .entry)) (now (options .entry)) (now (report .entry)) (now (cnv .entry)) (now (seq .entry)) .answer ⌝ }
-    ensures mount { λ r. ⌜ r .mount ≡ mountOutcome block (now (superblock .entry)) (now (options .entry)) (now (report .entry)) (now (cnv .entry)) (now (seq .entry)) .mount ⌝ }
-    ensures cnvs { λ _. ⌜ now (cnv .exit) ≡ mountOutcome block (now (superblock .entry)) (now (options .entry)) (now (report .entry)) (now (cnv .entry)) (now (seq .entry)) .cnv ⌝ }
-    ensures seqs { λ _. ⌜ now (seq .exit) ≡ mountOutcome block (now (superblock .entry)) (now (options .entry)) (now (report .entry)) (now (cnv .entry)) (now (seq .entry)) .seq ⌝ }
+    ensures answer { λ r. ⌜ r .answer ≡ mountOutcome block (now (superblock .entry)) (now (options .entry)) (now (report .entry)) «open_limit» «active_limit» (now (cnv .entry)) (now (seq .entry)) .answer ⌝ }
+    ensures mount { λ r. ⌜ r .mount ≡ mountOutcome block (now (superblock .entry)) (now (options .entry)) (now (report .entry)) «open_limit» «active_limit» (now (cnv .entry)) (now (seq .entry)) .mount ⌝ }
+    ensures cnvs { λ _. ⌜ now (cnv .exit) ≡ mountOutcome block (now (superblock .entry)) (now (options .entry)) (now (report .entry)) «open_limit» «active_limit» (now (cnv .entry)) (now (seq .entry)) .cnv ⌝ }
+    ensures seqs { λ _. ⌜ now (seq .exit) ≡ mountOutcome block (now (superblock .entry)) (now (options .entry)) (now (report .entry)) «open_limit» «active_limit» (now (cnv .entry)) (now (seq .entry)) .seq ⌝ }
 {
     let read = superblock::read_superblock(superblock);
     let found = read.check;
@@ -203,6 +249,6 @@ pub fn mount(
     let seqs = table::rows_lent(seq.len());
     let answer = mount_answer(block, found, parsed, aggregate, report, cnvs, seqs);
     fill_tables(answer, aggregate, report, cnv, seq);
-    let mount = mount_of(answer, block, fields, policy_of(parsed));
+    let mount = mount_of(answer, block, fields, parsed, open_limit, active_limit, seq);
     MountOutcome { answer, mount }
 }

@@ -1,6 +1,6 @@
 -- "Every other failure applies 000's table, and the row's condition becomes the record's": the row of a file after a failed command.
 use Prim.Native.Nat.{ℕ}
-use mathlib.Core.Bool.{Bool, _&&_}
+use mathlib.Core.Bool.{Bool, cond, not, _&&_, _||_}
 use lib.Dec.{eqb}
 use Rattle.types.specs.declared.Row.{Row}
 use Rattle.types.specs.declared.FileKind.{FileKind}
@@ -9,8 +9,9 @@ use Rattle.types.specs.declared.CommandKind.{CommandKind}
 use Rattle.types.specs.declared.Access.{Access}
 use Rattle.types.specs.declared.Access.the-variants as access
 use Rattle.types.specs.declared.ErrorPolicy.{ErrorPolicy}
-use Rattle.types.specs.Commands.{isRead}
-use Rattle.table.specs.Rows.{recoveredTo}
+use Rattle.types.specs.Commands.{isRead, isOpening}
+use Rattle.types.specs.Predicates.{isWrite}
+use Rattle.table.specs.Rows.{recoveredTo, withOpens}
 use Rattle.zones.specs.declared.Zone.{Zone}
 use Rattle.zones.specs.Zone.{conditionOf, healthy, writtenSize}
 use Rattle.recovery.specs.declared.grid.Rule.{Rule}
@@ -59,3 +60,9 @@ ruledAccess rule.Nothing a = access.Nothing
 unfoldable pub recoveredRow : ErrorPolicy → FileKind → Zone → Row → Row
 recoveredRow p k z r =
     recoveredTo r (ruledSize (recoveryRule p z .size) k z (r .size)) (conditionOf z) (ruledAccess (recoveryRule p z .access) (r .access))
+
+-- ---- 02: "A file is open .. until .. a failed open or the loss of write access"
+
+-- the row without opens where its command was an open, or where it has no write access now
+abbrev pub keptOpen : CommandKind → Row → Row
+keptOpen failed r = withOpens r (cond (isOpening failed || not (isWrite (r .access))) 0 (r .opens))

@@ -8,7 +8,7 @@ ghost use mathlib.Core.Path.{_≡_};
 ghost use mathlib.Core.Bool.{true};
 ghost use Rattle.zones.specs.Zone.{healthy};
 ghost use Rattle.recovery.specs.declared.grid.SizeRule.the-variants as rules;
-ghost use Rattle.recovery.specs.Recovery.{fixedSize, unharmed, nothingLost, ruledSize, readAtMost, ruledAccess, recoveredRow};
+ghost use Rattle.recovery.specs.Recovery.{fixedSize, unharmed, nothingLost, ruledSize, readAtMost, ruledAccess, recoveredRow, keptOpen};
 ghost use Rattle.recovery.specs.Facts.{Fitting, Sizing};
 use grid::AccessRule;
 use grid::SizeRule;
@@ -92,4 +92,16 @@ pub fn recovered_row(policy: ErrorPolicy, kind: FileKind, z: Zone, row: Row) -> 
     let size = ruled_size(size_rule, kind, z, row.size);
     let access = ruled_access(access_rule, before);
     table::recovered_to(row, size, condition, access)
+}
+
+// The row after a failed command: without opens where the command was an open, or where write access is lost.
+pub fn kept_open(failed: CommandKind, row: Row) -> Row
+    ensures { λ r. ⌜ r ≡ keptOpen failed row ⌝ }
+{
+    let a = row.access;
+    if types::commands::is_opening(failed) | !types::predicates::is_write(a) {
+        table::with_opens(row, 0)
+    } else {
+        table::with_opens(row, row.opens)
+    }
 }

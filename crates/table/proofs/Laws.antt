@@ -65,6 +65,8 @@ command-held command.Write a n = refl
 command-held command.Reset a n = refl
 command-held command.Finish a n = refl
 command-held command.Flush a n = refl
+command-held command.Open a n = refl
+command-held command.Close a n = refl
 
 pub held-back : (o : Outstanding) → heldRead (heldCode o) (heldAddress o) (heldLength o) ≡ o
 held-back Idle = refl
@@ -77,7 +79,7 @@ unfolding setRow
 setRow-length t i r = length-sets t (i * rowWidth) (rowWords r)
 
 -- a row stored word by word
-pub stored : (t : List ℕ) (i : ℕ) (r : Row) → setRow t i r ≡ set (set (set (set (set (set (set (set t (i * rowWidth) (r .start)) (i * rowWidth + 1) (r .capacity)) (i * rowWidth + 2) (r .size)) (i * rowWidth + 3) (conditionCode (r .condition))) (i * rowWidth + 4) (accessCode (r .access))) (i * rowWidth + 5) (heldCode (r .outstanding))) (i * rowWidth + 6) (heldAddress (r .outstanding))) (i * rowWidth + 7) (heldLength (r .outstanding))
+pub stored : (t : List ℕ) (i : ℕ) (r : Row) → setRow t i r ≡ set (set (set (set (set (set (set (set (set t (i * rowWidth) (r .start)) (i * rowWidth + 1) (r .capacity)) (i * rowWidth + 2) (r .size)) (i * rowWidth + 3) (conditionCode (r .condition))) (i * rowWidth + 4) (accessCode (r .access))) (i * rowWidth + 5) (heldCode (r .outstanding))) (i * rowWidth + 6) (heldAddress (r .outstanding))) (i * rowWidth + 7) (heldLength (r .outstanding))) (i * rowWidth + 8) (r .opens)
 unfolding setRow
 stored t i r =
     let one : suc (i * rowWidth) ≡ i * rowWidth + 1 = omega arith in
@@ -87,7 +89,8 @@ stored t i r =
     let five : suc (i * rowWidth + 4) ≡ i * rowWidth + 5 = omega arith in
     let six : suc (i * rowWidth + 5) ≡ i * rowWidth + 6 = omega arith in
     let seven : suc (i * rowWidth + 6) ≡ i * rowWidth + 7 = omega arith in
-    rw (one, two, three, four, five, six, seven)
+    let eight : suc (i * rowWidth + 7) ≡ i * rowWidth + 8 = omega arith in
+    rw (one, two, three, four, five, six, seven, eight)
 
 -- a word that is none of the row's, of another row or left over, is as before
 pub word-outside : (t : List ℕ) (i j : ℕ) (r : Row) → (j / rowWidth ≡ i → ⊥) → getD (setRow t i r) j 0 ≡ getD t j 0
@@ -101,7 +104,7 @@ word-outside t i j r h = sets-outside (rowWords r) t (i * rowWidth) j (λ g. els
 slot-of-words : (t u : List ℕ) (i j : ℕ) → ((k : ℕ) → k < rowWidth → wordAt t i k ≡ wordAt u j k) → rowAt t i ≡ rowAt u j
 unfolding rowAt
 slot-of-words t u i j same =
-    rw (same 0 (lit< tt), same 1 (lit< tt), same 2 (lit< tt), same 3 (lit< tt), same 4 (lit< tt), same 5 (lit< tt), same 6 (lit< tt), same 7 (lit< tt))
+    rw (same 0 (lit< tt), same 1 (lit< tt), same 2 (lit< tt), same 3 (lit< tt), same 4 (lit< tt), same 5 (lit< tt), same 6 (lit< tt), same 7 (lit< tt), same 8 (lit< tt))
 
 -- another row is as before
 pub rowAt-other : (t : List ℕ) (i j : ℕ) (r : Row) → i ≢ j → rowAt (setRow t i r) j ≡ rowAt t j
@@ -111,7 +114,7 @@ rowAt-other t i j r d = slot-of-words (setRow t i r) t j j (λ k h. word-outside
 pub rowAt-same : (t : List ℕ) (i : ℕ) (r : Row) → i < rowsLent (length t) → rowAt (setRow t i r) i ≡ Good r
 unfolding rowAt setRow
 rowAt-same t i r h =
-    rw (word 0 (lit< tt), word 1 (lit< tt), word 2 (lit< tt), word 3 (lit< tt), word 4 (lit< tt), word 5 (lit< tt), word 6 (lit< tt), word 7 (lit< tt), condition-back, access-back, held-back)
+    rw (word 0 (lit< tt), word 1 (lit< tt), word 2 (lit< tt), word 3 (lit< tt), word 4 (lit< tt), word 5 (lit< tt), word 6 (lit< tt), word 7 (lit< tt), word 8 (lit< tt), condition-back, access-back, held-back)
   where
     word : (k : ℕ) → k < rowWidth → getD (sets t (i * rowWidth) (rowWords r)) (i * rowWidth + k) 0 ≡ getD (rowWords r) k 0
     word k g = sets-inside (rowWords r) t (i * rowWidth) k g (omega arith)

@@ -1,5 +1,5 @@
 -- A row in the words of a lent table: "start, capacity in bytes, size, condition, access", and since 02 the command that its file has
--- outstanding. Row i is the words from i * rowWidth on.
+-- outstanding, and how many opens for writing it has. Row i is the words from i * rowWidth on.
 use Prim.Native.Nat.{ℕ, _+_, _-_, _*_, _/_}
 use mathlib.Core.List.{List, [], _∷_}
 use mathlib.Core.Bool.{cond}
@@ -30,7 +30,7 @@ use Rattle.table.specs.declared.AccessRead.the-variants as ar
 
 -- the words of a row
 abbrev pub rowWidth : ℕ
-rowWidth = 8
+rowWidth = 9
 
 -- the rows that so many words hold
 abbrev pub rowsLent : ℕ → ℕ
@@ -54,11 +54,12 @@ heldLength Idle = 0
 heldLength (Busy c) = c .length
 heldLength Unknown = 0
 
--- a row's words; 02: "The held command moves from the mount into the row"
+-- a row's words; 02: "The held command moves from the mount into the row", and "opens in a row"
 abbrev pub rowWords : Row → List ℕ
 rowWords r =
     r .start ∷ r .capacity ∷ r .size ∷ conditionCode (r .condition) ∷ accessCode (r .access)
-    ∷ heldCode (r .outstanding) ∷ heldAddress (r .outstanding) ∷ heldLength (r .outstanding) ∷ []
+    ∷ heldCode (r .outstanding) ∷ heldAddress (r .outstanding) ∷ heldLength (r .outstanding)
+    ∷ r .opens ∷ []
 
 -- the condition of this code, or none
 abbrev pub conditionRead : ℕ → ConditionRead
@@ -79,13 +80,14 @@ heldRead code address length =
     (cond (leb code commands) (Busy (record { kind = commandFrom (code - 1); address = address; length = length })) Unknown)
 
 -- codes of condition or access that no row has are an impossible row; what is outstanding on it is told all the same, as 8 comes before 10
-abbrev pub slotWith : ℕ → ℕ → ℕ → ConditionRead → AccessRead → Outstanding → Slot
-slotWith s c z (cr.Is k) (ar.Is a) o = Good (record { start = s; capacity = c; size = z; condition = k; access = a; outstanding = o })
-slotWith s c z (cr.Is k) ar.Bad o = Impossible o
-slotWith s c z cr.Bad a o = Impossible o
+abbrev pub slotWith : ℕ → ℕ → ℕ → ConditionRead → AccessRead → Outstanding → ℕ → Slot
+slotWith s c z (cr.Is k) (ar.Is a) o n =
+    Good (record { start = s; capacity = c; size = z; condition = k; access = a; outstanding = o; opens = n })
+slotWith s c z (cr.Is k) ar.Bad o n = Impossible o
+slotWith s c z cr.Bad a o n = Impossible o
 
-abbrev pub slotOf : ℕ → ℕ → ℕ → ℕ → ℕ → Outstanding → Slot
-slotOf s c z k a o = slotWith s c z (conditionRead k) (accessRead a) o
+abbrev pub slotOf : ℕ → ℕ → ℕ → ℕ → ℕ → Outstanding → ℕ → Slot
+slotOf s c z k a o n = slotWith s c z (conditionRead k) (accessRead a) o n
 
 abbrev pub outstandingIn : Slot → Outstanding
 outstandingIn (Good r) = r .outstanding
@@ -99,7 +101,7 @@ wordAt t i k = getD t (i * rowWidth + k) 0
 unfoldable pub rowAt : List ℕ → ℕ → Slot
 rowAt t i =
     slotOf (wordAt t i 0) (wordAt t i 1) (wordAt t i 2) (wordAt t i 3) (wordAt t i 4)
-    (heldRead (wordAt t i 5) (wordAt t i 6) (wordAt t i 7))
+    (heldRead (wordAt t i 5) (wordAt t i 6) (wordAt t i 7)) (wordAt t i 8)
 
 -- the table with a row at i
 unfoldable pub setRow : List ℕ → ℕ → Row → List ℕ
@@ -122,15 +124,15 @@ abbrev pub slotValues : Slot → List ℕ
 slotValues (Good r) = rowWords r
 slotValues (Impossible o) = []
 
--- "Healthy: .. access write"; a mount leaves nothing outstanding
+-- "Healthy: .. access write"; a mount leaves nothing outstanding, and no file open
 abbrev pub healthyRow : ℕ → ℕ → ℕ → Row
 healthyRow s c z =
-    record { start = s; capacity = c; size = z; condition = condition.Healthy; access = access.Write; outstanding = Idle }
+    record { start = s; capacity = c; size = z; condition = condition.Healthy; access = access.Write; outstanding = Idle; opens = 0 }
 
 -- "kept as offline, size 0, access none"
 abbrev pub offlineRow : ℕ → ℕ → Row
 offlineRow s c =
-    record { start = s; capacity = c; size = 0; condition = condition.Offline; access = access.Nothing; outstanding = Idle }
+    record { start = s; capacity = c; size = 0; condition = condition.Offline; access = access.Nothing; outstanding = Idle; opens = 0 }
 
 -- the row with another size
 abbrev pub withSize : Row → ℕ → Row
@@ -142,12 +144,21 @@ withSize r z =
       condition = r .condition;
       access = r .access;
       outstanding = r .outstanding;
+      opens = r .opens;
     }
 
 -- the row with the size, condition and access that a recovery gives it
 abbrev pub recoveredTo : Row → ℕ → Condition → Access → Row
 recoveredTo r z k a =
-    record { start = r .start; capacity = r .capacity; size = z; condition = k; access = a; outstanding = r .outstanding }
+    record {
+      start = r .start;
+      capacity = r .capacity;
+      size = z;
+      condition = k;
+      access = a;
+      outstanding = r .outstanding;
+      opens = r .opens;
+    }
 
 -- the row with something else outstanding
 abbrev pub withOutstanding : Row → Outstanding → Row
@@ -159,6 +170,20 @@ withOutstanding r o =
       condition = r .condition;
       access = r .access;
       outstanding = o;
+      opens = r .opens;
+    }
+
+-- the row with another number of opens
+abbrev pub withOpens : Row → ℕ → Row
+withOpens r n =
+    record {
+      start = r .start;
+      capacity = r .capacity;
+      size = r .size;
+      condition = r .condition;
+      access = r .access;
+      outstanding = r .outstanding;
+      opens = n;
     }
 
 -- 02: "each file may have one outstanding"

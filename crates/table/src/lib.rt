@@ -1,12 +1,12 @@
 // A lent table: `ROW_WORDS` words to a row, the start in sectors, the capacity and the size in bytes, the codes of condition and access, and
-// the held command: 1 + its code, or 0 for none, its address and its length in bytes.
+// the held command: 1 + its code, or 0 for none, its address and its length in bytes; and how many opens the file has.
 // Everything that takes a row apart or puts one together is here.
 ghost use mathlib.Core.Path.{_≡_};
 ghost use Prim.Native.Nat.{_<_};
 ghost use lib.ListN.{length};
 ghost use Rattle.types.specs.declared.FileKind.the-variants as files;
 ghost use Rattle.table.specs.Facts.{StoreFits};
-ghost use Rattle.table.specs.Rows.{rowsLent, heldCode, heldAddress, heldLength, conditionRead, accessRead, heldRead, slotWith, slotOf, outstandingIn, rowAt, setRow, stored, healthyRow, offlineRow, withSize, recoveredTo, withOutstanding, holding, cleared};
+ghost use Rattle.table.specs.Rows.{rowsLent, heldCode, heldAddress, heldLength, conditionRead, accessRead, heldRead, slotWith, slotOf, outstandingIn, rowAt, setRow, stored, healthyRow, offlineRow, withSize, recoveredTo, withOutstanding, withOpens, holding, cleared};
 use types::Access;
 use types::Command;
 use types::Condition;
@@ -16,7 +16,7 @@ use types::Row;
 use types::Store;
 
 // The words of a row, and where they stand behind the first, its start.
-pub const ROW_WORDS: usize = 8;
+pub const ROW_WORDS: usize = 9;
 
 const CAPACITY: usize = 1;
 
@@ -31,6 +31,8 @@ const HELD: usize = 5;
 const HELD_ADDRESS: usize = 6;
 
 const HELD_LENGTH: usize = 7;
+
+const OPENS: usize = 8;
 
 // What a row's words say: a row, or that the code of its condition or access is none of the codes, and what is outstanding there.
 pub enum Slot {
@@ -105,8 +107,9 @@ fn slot_with(
     condition: ConditionRead,
     access: AccessRead,
     outstanding: Outstanding,
+    opens: u64,
 ) -> Slot
-    ensures { λ r. ⌜ r ≡ slotWith start capacity size condition access outstanding ⌝ }
+    ensures { λ r. ⌜ r ≡ slotWith start capacity size condition access outstanding opens ⌝ }
 {
     let ConditionRead::Is(c) = condition else {
         return Slot::Impossible(outstanding);
@@ -121,6 +124,7 @@ fn slot_with(
         condition: c,
         access: a,
         outstanding,
+        opens,
     })
 }
 
@@ -131,8 +135,9 @@ fn slot_of(
     condition: u64,
     access: u64,
     outstanding: Outstanding,
+    opens: u64,
 ) -> Slot
-    ensures { λ r. ⌜ r ≡ slotOf start capacity size condition access outstanding ⌝ }
+    ensures { λ r. ⌜ r ≡ slotOf start capacity size condition access outstanding opens ⌝ }
 {
     slot_with(
         start,
@@ -141,6 +146,7 @@ fn slot_of(
         condition_read(condition),
         access_read(access),
         outstanding,
+        opens,
     )
 }
 
@@ -168,6 +174,7 @@ pub fn row_at(t: &[u64], i: usize) -> Slot
         t[b + CONDITION],
         t[b + ACCESS],
         outstanding,
+        t[b + OPENS],
     )
 }
 
@@ -227,6 +234,7 @@ pub fn put_row(t: &mut [u64], i: usize, row: Row)
     t[b + HELD] = held;
     t[b + HELD_ADDRESS] = address;
     t[b + HELD_LENGTH] = length;
+    t[b + OPENS] = row.opens;
 }
 
 // Stores what a call or a completion says: nothing, or a row in the table of its kind.
@@ -255,6 +263,7 @@ pub fn healthy_row(start: u64, capacity: u64, size: u64) -> Row
         condition: Condition::Healthy,
         access: Access::Write,
         outstanding: Outstanding::Idle,
+        opens: 0,
     }
 }
 
@@ -269,6 +278,7 @@ pub fn offline_row(start: u64, capacity: u64) -> Row
         condition: Condition::Offline,
         access: Access::Nothing,
         outstanding: Outstanding::Idle,
+        opens: 0,
     }
 }
 
@@ -286,6 +296,7 @@ pub fn with_size(row: Row, size: u64) -> Row
         condition,
         access,
         outstanding,
+        opens: row.opens,
     }
 }
 
@@ -301,6 +312,7 @@ pub fn recovered_to(row: Row, size: u64, condition: Condition, access: Access) -
         condition,
         access,
         outstanding,
+        opens: row.opens,
     }
 }
 
@@ -317,6 +329,25 @@ fn with_outstanding(row: Row, outstanding: Outstanding) -> Row
         condition,
         access,
         outstanding,
+        opens: row.opens,
+    }
+}
+
+// The row with another number of opens.
+pub fn with_opens(row: Row, opens: u64) -> Row
+    ensures { λ r. ⌜ r ≡ withOpens row opens ⌝ }
+{
+    let condition = row.condition;
+    let access = row.access;
+    let outstanding = row.outstanding;
+    Row {
+        start: row.start,
+        capacity: row.capacity,
+        size: row.size,
+        condition,
+        access,
+        outstanding,
+        opens,
     }
 }
 

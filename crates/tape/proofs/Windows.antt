@@ -69,6 +69,8 @@ module _ {b : List ℕ} {at : ℕ} {c : List ℕ} {there : ℕ} (a : Alike b at 
   record-alike-by mark.Write = rw (number 8 7 (omega arith), number 8 15 (omega arith)) (on-file-alike _)
   record-alike-by mark.Truncate = rw (number 8 15 (omega arith)) (on-file-alike _)
   record-alike-by mark.Flush = on-file-alike call.Flush
+  record-alike-by mark.Open = on-file-alike call.Open
+  record-alike-by mark.Close = on-file-alike call.Close
   record-alike-by mark.Good = end-alike true
   record-alike-by mark.Failed = end-alike false
   record-alike-by mark.Unknown = refl
@@ -78,6 +80,8 @@ module _ {b : List ℕ} {at : ℕ} {c : List ℕ} {there : ℕ} (a : Alike b at 
   no-longer mark.Write = omega arith
   no-longer mark.Truncate = omega arith
   no-longer mark.Flush = omega arith
+  no-longer mark.Open = omega arith
+  no-longer mark.Close = omega arith
   no-longer mark.Good = omega arith
   no-longer mark.Failed = omega arith
   no-longer mark.Unknown = omega arith

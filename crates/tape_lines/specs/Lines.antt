@@ -29,16 +29,20 @@ callMark (call.Read offset length) = mark.Read
 callMark (call.Write offset length) = mark.Write
 callMark (call.Truncate size) = mark.Truncate
 callMark call.Flush = mark.Flush
+callMark call.Open = mark.Open
+callMark call.Close = mark.Close
 
 -- ---- what stands after them
 
--- "its letter (R W Z reset F finish S flush)"
+-- "its letter (R W Z reset F finish S flush)"; 02: "`OP` and `CL` (letters O, C) look like FL"
 abbrev pub letterOf : CommandKind → ℕ
 letterOf command.Read = code "R"
 letterOf command.Write = code "W"
 letterOf command.Reset = code "Z"
 letterOf command.Finish = code "F"
 letterOf command.Flush = code "S"
+letterOf command.Open = code "O"
+letterOf command.Close = code "C"
 
 -- "for a command its letter .., address and length"
 abbrev pub commandFields : Command → List ℕ

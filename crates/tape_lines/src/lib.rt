@@ -80,6 +80,8 @@ fn letter_of(k: CommandKind) -> u8
         CommandKind::Reset => b'Z',
         CommandKind::Finish => b'F',
         CommandKind::Flush => b'S',
+        CommandKind::Open => b'O',
+        CommandKind::Close => b'C',
     }
 }
 
@@ -140,6 +142,8 @@ fn call_mark(x: Call) -> Mark
         Call::Write(_, _) => Mark::Write,
         Call::Truncate(_) => Mark::Truncate,
         Call::Flush => Mark::Flush,
+        Call::Open => Mark::Open,
+        Call::Close => Mark::Close,
     }
 }
 

@@ -15,7 +15,7 @@ use Rattle.wire.specs.Le.{le}
 use Rattle.wire.proofs.Laws.{le-drop}
 use Rattle.mount.specs.Mount.{Mounting, mountOutcome}
 use Rattle.tape_records.specs.declared.Letters.{Letters}
-use Rattle.tape_records.specs.Records.{markBytes, lettersAt, sameLetters, stands, superPlace, reportPlace, tapeZones, reportStart, countOf, reportLength, mountPlace, mountBytes, optionsStart, optionsLength, runPlace, blockLetters, superLetters, reportLetters, mountLetters, startsWell, mountStands, opens, blockOf, superBytes, reportBytes, optionBytes}
+use Rattle.tape_records.specs.Records.{markBytes, lettersAt, sameLetters, stands, superPlace, reportPlace, tapeZones, reportStart, countOf, reportLength, mountPlace, mountBytes, optionsStart, optionsLength, limitsPlace, limitsBytes, runPlace, blockLetters, superLetters, reportLetters, mountLetters, startsWell, mountStands, opens, blockOf, superBytes, reportBytes, optionBytes, openLimitOf, activeLimitOf}
 use Rattle.tape_records.specs.Facts.{longestReport}
 use Rattle.superblock.specs.SuperBlock.{superLength}
 use Rattle.zones.specs.Zone.{zoneBytes}
@@ -60,8 +60,11 @@ module _ (b f : List ℕ) (h : longestOpening ≤ length b) (small : (i : ℕ) �
   run-limit : runPlace b ≤ longestOpening
   run-limit = omega (arith, place-limit, small (mountPlace b + markBytes))
 
+  limits : limitsPlace (b ++ f) ≡ limitsPlace b
+  limits = ap (λ n. n + mountBytes + optionsLength (b ++ f)) place ∙ ap (λ n. mountPlace b + mountBytes + n) options-length
+
   run : runPlace (b ++ f) ≡ runPlace b
-  run = ap (λ n. n + mountBytes + optionsLength (b ++ f)) place ∙ ap (λ n. mountPlace b + mountBytes + n) options-length
+  run = ap (λ n. n + limitsBytes) limits
 
   letters-same : (at : ℕ) → at + markBytes ≤ longestOpening → lettersAt (b ++ f) at ≡ lettersAt b at
   letters-same at p = rw (byte at (omega arith), byte (at + 1) (omega arith))
@@ -91,21 +94,29 @@ module _ (b f : List ℕ) (h : longestOpening ≤ length b) (small : (i : ℕ) �
 
   mounting-same : (cnv seq : List ℕ) → mounting (b ++ f) cnv seq ≡ mounting b cnv seq
   mounting-same cnv seq =
-      ap (λ (x : ℕ). mountOutcome x (superBytes (b ++ f)) (optionBytes (b ++ f)) (reportBytes (b ++ f)) cnv seq) (number 2 markBytes (omega arith))
-      ∙ ap (λ (x : List ℕ). mountOutcome (blockOf b) x (optionBytes (b ++ f)) (reportBytes (b ++ f)) cnv seq) (part superLength (superPlace + markBytes) (omega arith))
-      ∙ ap (λ (x : List ℕ). mountOutcome (blockOf b) (superBytes b) x (reportBytes (b ++ f)) cnv seq) options-same
-      ∙ ap (λ (x : List ℕ). mountOutcome (blockOf b) (superBytes b) (optionBytes b) x cnv seq) report-same
+      ap (λ (x : ℕ). mountOutcome x (superBytes (b ++ f)) (optionBytes (b ++ f)) (reportBytes (b ++ f)) (openLimitOf (b ++ f)) (activeLimitOf (b ++ f)) cnv seq) (number 2 markBytes (omega arith))
+      ∙ ap (λ (x : List ℕ). mountOutcome (blockOf b) x (optionBytes (b ++ f)) (reportBytes (b ++ f)) (openLimitOf (b ++ f)) (activeLimitOf (b ++ f)) cnv seq) (part superLength (superPlace + markBytes) (omega arith))
+      ∙ ap (λ (x : List ℕ). mountOutcome (blockOf b) (superBytes b) x (reportBytes (b ++ f)) (openLimitOf (b ++ f)) (activeLimitOf (b ++ f)) cnv seq) options-same
+      ∙ ap (λ (x : List ℕ). mountOutcome (blockOf b) (superBytes b) (optionBytes b) x (openLimitOf (b ++ f)) (activeLimitOf (b ++ f)) cnv seq) report-same
+      ∙ ap (λ (x : ℕ). mountOutcome (blockOf b) (superBytes b) (optionBytes b) (reportBytes b) x (activeLimitOf (b ++ f)) cnv seq) open-same
+      ∙ ap (λ (x : ℕ). mountOutcome (blockOf b) (superBytes b) (optionBytes b) (reportBytes b) (openLimitOf b) x cnv seq) active-same
     where
       options-same : optionBytes (b ++ f) ≡ optionBytes b
       options-same =
           ap (λ (n : ℕ). take n (drop (optionsStart (b ++ f)) (b ++ f))) options-length
           ∙ ap (λ (n : ℕ). take (optionsLength b) (drop (n + mountBytes) (b ++ f))) place
-          ∙ part (optionsLength b) (optionsStart b) run-limit
+          ∙ part (optionsLength b) (optionsStart b) (omega (arith, run-limit))
 
       report-same : reportBytes (b ++ f) ≡ reportBytes b
       report-same =
           ap (λ (n : ℕ). take (reportLength n) (drop reportStart (b ++ f))) count
           ∙ part (reportLength (countOf b)) reportStart (omega (arith, place-limit))
+
+      open-same : openLimitOf (b ++ f) ≡ openLimitOf b
+      open-same = ap (λ (n : ℕ). le 4 (b ++ f) n) limits ∙ number 4 (limitsPlace b) (omega (arith, run-limit))
+
+      active-same : activeLimitOf (b ++ f) ≡ activeLimitOf b
+      active-same = ap (λ (n : ℕ). le 4 (b ++ f) (n + 4)) limits ∙ number 4 (limitsPlace b + 4) (omega (arith, run-limit))
 
   -- the first four records are the same, whatever follows
   pub opening-follows : (cnv seq : List ℕ) → openTurn (b ++ f) cnv seq ≡ openTurn b cnv seq

@@ -7,8 +7,8 @@ use mathlib.Core.Bool.{Bool, true, false, not, _&&_, _||_}
 use lib.ListN.{length, getD, drop}
 use lib.Dec.{eqb}
 use Rattle.tape_lines.specs.Facts.{lineRoom}
-use Rattle.tape_records.specs.Records.{mountBytes, reportStart}
-use Rattle.tape_records.specs.Facts.{longestReport}
+use Rattle.tape_records.specs.Records.{limitsBytes}
+use Rattle.tape_records.specs.Facts.{longestOptions}
 use Rattle.tape_turns.specs.Turns.{Rest, Turn, openTurn}
 use Rattle.tape.specs.Tape.{noRows, tapeText}
 use Rattle.tape.specs.Blocks.{longestRecord, atFront, lineThen, blockOf}
@@ -86,7 +86,7 @@ InOrder (x ∷ xs) unread = (x .last ≡ true → joined xs ++ unread ≡ []) ×
 
 -- the first four records are no longer
 abbrev pub longestOpening : ℕ
-longestOpening = reportStart + longestReport + mountBytes + 255
+longestOpening = longestOptions + limitsBytes
 
 -- reads hand over an input in order: bytes, the first four records whole in the first piece if it isn't the last; some may be left unread
 pub record Handed (first : Piece) (later : List Piece) (unread : List ℕ) : Type 0 where

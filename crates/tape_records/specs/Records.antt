@@ -30,12 +30,14 @@ markBytes = 2
 abbrev pub pair : ℕ → ℕ → Letters
 pair x y = record { first = x; second = y }
 
--- "`RD WR TR FL` .., `OK`, `NO`", and "`??`" for what is none of them
+-- "`RD WR TR FL` .., `OK`, `NO`", 02's "`OP` and `CL`", and "`??`" for what is none of them
 abbrev pub lettersOf : Mark → Letters
 lettersOf mark.Read = pair (code "R") (code "D")
 lettersOf mark.Write = pair (code "W") (code "R")
 lettersOf mark.Truncate = pair (code "T") (code "R")
 lettersOf mark.Flush = pair (code "F") (code "L")
+lettersOf mark.Open = pair (code "O") (code "P")
+lettersOf mark.Close = pair (code "C") (code "L")
 lettersOf mark.Good = pair (code "O") (code "K")
 lettersOf mark.Failed = pair (code "N") (code "O")
 lettersOf mark.Unknown = pair (code "?") (code "?")
@@ -53,8 +55,10 @@ markOf l =
     (pick mark.Write l
     (pick mark.Truncate l
     (pick mark.Flush l
+    (pick mark.Open l
+    (pick mark.Close l
     (pick mark.Good l
-    (pick mark.Failed l mark.Unknown)))))
+    (pick mark.Failed l mark.Unknown)))))))
 
 -- the two bytes at a place
 abbrev pub lettersAt : List ℕ → ℕ → Letters
@@ -108,12 +112,14 @@ endAt b at done = End (kindAt b at) (numberAt b at) done
 abbrev pub endRecord : Bool → List ℕ → ℕ → List ℕ
 endRecord done b at = take (endBytes done - namedBytes) (drop (at + namedBytes) b)
 
--- how long the record of a mark is
+-- how long the record of a mark is. 02: "`OP` and `CL` .. look like FL"
 abbrev pub recordBytes : Mark → ℕ
 recordBytes mark.Read = callBytes
 recordBytes mark.Write = callBytes
 recordBytes mark.Truncate = callBytes
 recordBytes mark.Flush = callBytes
+recordBytes mark.Open = callBytes
+recordBytes mark.Close = callBytes
 recordBytes mark.Good = endBytes true
 recordBytes mark.Failed = endBytes false
 recordBytes mark.Unknown = markBytes
@@ -124,6 +130,8 @@ recordOf mark.Read b at = onFileAt b at (call.Read (offsetAt b at) (lengthAt b a
 recordOf mark.Write b at = onFileAt b at (call.Write (offsetAt b at) (lengthAt b at))
 recordOf mark.Truncate b at = onFileAt b at (call.Truncate (lengthAt b at))
 recordOf mark.Flush b at = onFileAt b at call.Flush
+recordOf mark.Open b at = onFileAt b at call.Open
+recordOf mark.Close b at = onFileAt b at call.Close
 recordOf mark.Good b at = endAt b at true
 recordOf mark.Failed b at = endAt b at false
 recordOf mark.Unknown b at = Broken
@@ -175,9 +183,16 @@ optionsStart b = mountPlace b + mountBytes
 abbrev pub optionsLength : List ℕ → ℕ
 optionsLength b = getD b (mountPlace b + markBytes) 0
 
--- where the records after them start
+-- after them, 02: "MO ends with the limits (u32, open first)"
+abbrev pub limitsPlace : List ℕ → ℕ
+limitsPlace b = optionsStart b + optionsLength b
+
+abbrev pub limitsBytes : ℕ
+limitsBytes = 8
+
+-- where the records after `MO` start
 abbrev pub runPlace : List ℕ → ℕ
-runPlace b = optionsStart b + optionsLength b
+runPlace b = limitsPlace b + limitsBytes
 
 -- a record of n bytes with these letters stands at a place
 abbrev pub stands : Letters → ℕ → List ℕ → ℕ → Bool
@@ -222,3 +237,9 @@ reportBytes b = take (reportLength (countOf b)) (drop reportStart b)
 
 abbrev pub optionBytes : List ℕ → List ℕ
 optionBytes b = take (optionsLength b) (drop (optionsStart b) b)
+
+abbrev pub openLimitOf : List ℕ → ℕ
+openLimitOf b = le 4 b (limitsPlace b)
+
+abbrev pub activeLimitOf : List ℕ → ℕ
+activeLimitOf b = le 4 b (limitsPlace b + 4)

@@ -4,8 +4,8 @@ ghost use mathlib.Core.Bool.{true};
 ghost use Prim.Native.Nat.{_+_, _≤_};
 ghost use lib.ListN.{length};
 ghost use Rattle.report.specs.Report.{headerBytes};
-ghost use Rattle.tape_records.specs.Records.{holds, markBytes, pair, lettersOf, sameLetters, pick, markOf, lettersAt, markAt, kindAt, numberAt, namedBytes, callBytes, onFileAt, offsetAt, lengthAt, endMark, endBytes, endAt, endRecord, recordBytes, recordOf, recordAt, reportStart, reportLength, mountPlace, mountBytes, runPlace, stands, startsWell, mountStands, opens, blockOf, superBytes, reportBytes, optionBytes};
-ghost use Rattle.tape_records.specs.Facts.{Stands, longestReport, Opened};
+ghost use Rattle.tape_records.specs.Records.{holds, markBytes, pair, lettersOf, sameLetters, pick, markOf, lettersAt, markAt, kindAt, numberAt, namedBytes, callBytes, onFileAt, offsetAt, lengthAt, endMark, endBytes, endAt, endRecord, recordBytes, recordOf, recordAt, reportStart, reportLength, mountPlace, mountBytes, limitsPlace, runPlace, stands, startsWell, mountStands, opens, blockOf, superBytes, reportBytes, optionBytes, openLimitOf, activeLimitOf};
+ghost use Rattle.tape_records.specs.Facts.{Stands, longestReport, longestOptions, Opened};
 use report::HEADER_BYTES;
 use superblock::SUPER_BYTES;
 use types::Call;
@@ -47,6 +47,11 @@ const REPORT_START: usize = REPORT_PLACE + MARK_BYTES;
 // The mark of `MO` and the length of its options.
 const MOUNT_BYTES: usize = MARK_BYTES + 1;
 
+// The two limits after the options, the open one first, and where the other stands among them.
+const LIMITS_BYTES: usize = 8;
+
+const ACTIVE_LIMIT_AT: usize = 4;
+
 // The two bytes of a mark.
 pub struct Letters {
     pub first: u8,
@@ -59,6 +64,8 @@ pub enum Mark {
     Write,
     Truncate,
     Flush,
+    Open,
+    Close,
     Good,
     Failed,
     Unknown,
@@ -101,6 +108,8 @@ pub fn letters_of(m: Mark) -> Letters
         Mark::Write => pair(b'W', b'R'),
         Mark::Truncate => pair(b'T', b'R'),
         Mark::Flush => pair(b'F', b'L'),
+        Mark::Open => pair(b'O', b'P'),
+        Mark::Close => pair(b'C', b'L'),
         Mark::Good => pair(b'O', b'K'),
         Mark::Failed => pair(b'N', b'O'),
         Mark::Unknown => pair(b'?', b'?'),
@@ -131,6 +140,8 @@ fn mark_of(l: Letters) -> Mark
     let rest = Mark::Unknown;
     let rest = pick(Mark::Failed, l, rest);
     let rest = pick(Mark::Good, l, rest);
+    let rest = pick(Mark::Close, l, rest);
+    let rest = pick(Mark::Open, l, rest);
     let rest = pick(Mark::Flush, l, rest);
     let rest = pick(Mark::Truncate, l, rest);
     let rest = pick(Mark::Write, l, rest);
@@ -187,6 +198,8 @@ fn record_bytes(m: Mark) -> usize
         Mark::Write => CALL_BYTES,
         Mark::Truncate => CALL_BYTES,
         Mark::Flush => CALL_BYTES,
+        Mark::Open => CALL_BYTES,
+        Mark::Close => CALL_BYTES,
         Mark::Good => NAMED_BYTES,
         Mark::Failed => FAILED_BYTES,
         Mark::Unknown => MARK_BYTES,
@@ -249,6 +262,8 @@ fn record_of(m: Mark, b: &[u8], at: usize) -> Record
         Mark::Write => on_file_at(b, at, Call::Write(offset_at(b, at), length_at(b, at))),
         Mark::Truncate => on_file_at(b, at, Call::Truncate(length_at(b, at))),
         Mark::Flush => on_file_at(b, at, Call::Flush),
+        Mark::Open => on_file_at(b, at, Call::Open),
+        Mark::Close => on_file_at(b, at, Call::Close),
         Mark::Good => end_at(b, at, true),
         Mark::Failed => end_at(b, at, false),
         Mark::Unknown => Record::Broken,
@@ -287,13 +302,21 @@ fn mount_place(b: &[u8]) -> usize
     REPORT_START + report_length(report::zone_count(&b[REPORT_START..]))
 }
 
+// Where the limits start that `MO` ends with.
+fn limits_place(b: &[u8]) -> usize
+    requires { ⌜ (reportStart + headerBytes ≤ length (now b)) × (mountPlace (now b) + mountBytes ≤ length (now b)) ⌝ }
+    ensures { λ r. ⌜ (r ≡ limitsPlace (now (b .entry))) × (r ≤ longestOptions) ⌝ }
+{
+    let at = mount_place(b);
+    at + MOUNT_BYTES + wire::u8_at(b, at + MARK_BYTES) as usize
+}
+
 // Where the records after `MO` start.
 pub fn run_place(b: &[u8]) -> usize
     requires { ⌜ (reportStart + headerBytes ≤ length (now b)) × (mountPlace (now b) + mountBytes ≤ length (now b)) ⌝ }
     ensures { λ r. ⌜ r ≡ runPlace (now (b .entry)) ⌝ }
 {
-    let at = mount_place(b);
-    at + MOUNT_BYTES + wire::u8_at(b, at + MARK_BYTES) as usize
+    limits_place(b) + LIMITS_BYTES
 }
 
 // A record of `n` bytes with these letters stands at `at`.
@@ -360,7 +383,7 @@ pub fn opens(b: &[u8]) -> bool
     }
 }
 
-// What the first four records say: the block size, the super block, the report and the mount options.
+// What the first four records say: the block size, the super block, the report, the mount options and the limits.
 pub fn block_of(b: &[u8]) -> u16
     requires { ⌜ Opened (now b) ⌝ }
     ensures { λ r. ⌜ r ≡ blockOf (now (b .entry)) ⌝ }
@@ -388,6 +411,20 @@ pub fn option_bytes(b: &[u8]) -> &[u8]
     ensures { λ r. ⌜ now r ≡ optionBytes (now (b .entry)) ⌝ }
 {
     let from = mount_place(b) + MOUNT_BYTES;
-    let end = run_place(b);
+    let end = limits_place(b);
     &b[from..end]
+}
+
+pub fn open_limit_of(b: &[u8]) -> u32
+    requires { ⌜ Opened (now b) ⌝ }
+    ensures { λ r. ⌜ r ≡ openLimitOf (now (b .entry)) ⌝ }
+{
+    wire::u32_at(b, limits_place(b))
+}
+
+pub fn active_limit_of(b: &[u8]) -> u32
+    requires { ⌜ Opened (now b) ⌝ }
+    ensures { λ r. ⌜ r ≡ activeLimitOf (now (b .entry)) ⌝ }
+{
+    wire::u32_at(b, limits_place(b) + ACTIVE_LIMIT_AT)
 }

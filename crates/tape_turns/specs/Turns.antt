@@ -12,7 +12,7 @@ use Rattle.engine.specs.Engine.{State, mounted, call, completion, Step, step}
 use Rattle.tape_records.specs.declared.Record.{Record}
 use Rattle.tape_records.specs.declared.Record.the-variants.{OnFile, End, Broken}
 use Rattle.tape_records.specs.declared.Mark.{Mark}
-use Rattle.tape_records.specs.Records.{callBytes, endMark, endBytes, endRecord, recordAt, opens, blockOf, superBytes, reportBytes, optionBytes, runPlace}
+use Rattle.tape_records.specs.Records.{callBytes, endMark, endBytes, endRecord, recordAt, opens, blockOf, superBytes, reportBytes, optionBytes, openLimitOf, activeLimitOf, runPlace}
 use Rattle.tape_lines.specs.Lines.{callLine, completionLine, mountLine, brokenLine}
 
 -- what a record leaves: whether the tape goes on, the place of the next record, and the state for it
@@ -68,7 +68,7 @@ abbrev pub mountTurn : ℕ → Mounting → Turn
 mountTurn next o = turn (mountLine (o .answer)) (goesOn (o .answer)) next (mounted o)
 
 abbrev pub mounting : List ℕ → List ℕ → List ℕ → Mounting
-mounting b cnv seq = mountOutcome (blockOf b) (superBytes b) (optionBytes b) (reportBytes b) cnv seq
+mounting b cnv seq = mountOutcome (blockOf b) (superBytes b) (optionBytes b) (reportBytes b) (openLimitOf b) (activeLimitOf b) cnv seq
 
 unfoldable pub openTurn : List ℕ → List ℕ → List ℕ → Turn
 openTurn b cnv seq =

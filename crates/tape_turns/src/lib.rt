@@ -141,7 +141,18 @@ fn mount_from(b: &[u8], cnv: &mut [u64], seq: &mut [u64]) -> MountOutcome
     let super_block = tape_records::super_bytes(b);
     let options = tape_records::option_bytes(b);
     let report = tape_records::report_bytes(b);
-    mount::mount(block as u64, super_block, options, report, cnv, seq)
+    let open_limit = tape_records::open_limit_of(b);
+    let active_limit = tape_records::active_limit_of(b);
+    mount::mount(
+        block as u64,
+        super_block,
+        options,
+        report,
+        open_limit,
+        active_limit,
+        cnv,
+        seq,
+    )
 }
 
 // The turn of the first four records, where they stand.

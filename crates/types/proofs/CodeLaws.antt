@@ -36,6 +36,8 @@ command-back command.Write = refl
 command-back command.Reset = refl
 command-back command.Finish = refl
 command-back command.Flush = refl
+command-back command.Open = refl
+command-back command.Close = refl
 
 pub command-small : (k : CommandKind) → commandCode k < commands
 command-small command.Read = lit< tt
@@ -43,3 +45,5 @@ command-small command.Write = lit< tt
 command-small command.Reset = lit< tt
 command-small command.Finish = lit< tt
 command-small command.Flush = lit< tt
+command-small command.Open = lit< tt
+command-small command.Close = lit< tt

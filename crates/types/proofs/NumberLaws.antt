@@ -4,7 +4,7 @@ use Prim.Native.Nat.{ℕ, _<_}
 use native.Mathlib.Omega.{arith}
 use mathlib.Core.Path.{_≡_, refl}
 use Rattle.types.specs.declared.Refusal.{Refusal}
-use Rattle.types.specs.declared.Refusal.the-variants.{NoFile, Busy, ReadOnlyMount, Denied, BeyondCapacity, Misplaced, Failed, NothingOutstanding, BadRecord, Impossible, BadBlock, SuperLength, SuperMagic, SuperChecksum, SuperFeatures, SuperOwner, SuperTail, BadOptions, BadReport, BadZone, TooFewRows, SuperPerm, LabelLength}
+use Rattle.types.specs.declared.Refusal.the-variants.{NoFile, Busy, ReadOnlyMount, Denied, BeyondCapacity, Misplaced, Failed, NothingOutstanding, BadRecord, Impossible, BadBlock, SuperLength, SuperMagic, SuperChecksum, SuperFeatures, SuperOwner, SuperTail, BadOptions, BadReport, BadZone, TooFewRows, SuperPerm, LabelLength, OpenLimit, ActiveLimit, NotOpen, TooManyOpens}
 use Rattle.types.specs.declared.MountAnswer.{MountAnswer}
 use Rattle.types.specs.declared.MountAnswer.the-variants.{Refused, Mounted}
 use Rattle.types.specs.Numbers.{refusalNumber, mountNumber}
@@ -33,6 +33,10 @@ refusal-positive (BadZone zone fault) = omega arith
 refusal-positive TooFewRows = omega arith
 refusal-positive SuperPerm = omega arith
 refusal-positive LabelLength = omega arith
+refusal-positive OpenLimit = omega arith
+refusal-positive ActiveLimit = omega arith
+refusal-positive NotOpen = omega arith
+refusal-positive TooManyOpens = omega arith
 
 -- so a mount answered 0 is not refused
 pub mounted-zero : (a : MountAnswer) → mountNumber a ≡ 0 → (cnvs : ℕ) × ((seqs : ℕ) × (a ≡ Mounted cnvs seqs))

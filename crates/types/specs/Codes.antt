@@ -56,23 +56,26 @@ policyCode Repair = 3
 abbrev pub policyFrom : ℕ → ErrorPolicy
 policyFrom n = cond (eqb n 0) RemountRo (cond (eqb n 1) ZoneRo (cond (eqb n 2) ZoneOffline Repair))
 
--- the letters R W Z F S of the tape, in this order
+-- the letters R W Z F S of the tape, in this order, and 02's O and C
 abbrev pub commandCode : CommandKind → ℕ
 commandCode command.Read = 0
 commandCode command.Write = 1
 commandCode command.Reset = 2
 commandCode command.Finish = 3
 commandCode command.Flush = 4
+commandCode command.Open = 5
+commandCode command.Close = 6
 
 -- how many commands there are
 abbrev pub commands : ℕ
-commands = 5
+commands = 7
 
 -- and back, of a number below that
 abbrev pub commandFrom : ℕ → CommandKind
 commandFrom n =
     cond (eqb n 0) command.Read
-    (cond (eqb n 1) command.Write (cond (eqb n 2) command.Reset (cond (eqb n 3) command.Finish command.Flush)))
+    (cond (eqb n 1) command.Write (cond (eqb n 2) command.Reset (cond (eqb n 3) command.Finish
+    (cond (eqb n 4) command.Flush (cond (eqb n 5) command.Open command.Close)))))
 
 -- 02: "a reason, the first of: 1 start, 2 length, 3 capacity (also a conventional one's), 4 end, 5 type, 6 condition, 7 pointer", and for a
 -- completion's record "8 not this file's zone, 9 a better condition"; 0 where there is none to name

@@ -1,8 +1,8 @@
--- The number and the values of each answer, as paper 01 gives them: "When the drawer says no", and 0 for what is not refused. 02 adds reasons, 33 and 34.
+-- The number and the values of each answer, as paper 01 gives them: "When the drawer says no", and 0 for what is not refused. 02 adds reasons, 11 to 14, 33 and 34.
 use Prim.Native.Nat.{ℕ}
 use mathlib.Core.List.{List, [], _∷_}
 use Rattle.types.specs.declared.Refusal.{Refusal}
-use Rattle.types.specs.declared.Refusal.the-variants.{NoFile, Busy, ReadOnlyMount, Denied, BeyondCapacity, Misplaced, Failed, NothingOutstanding, BadRecord, Impossible, BadBlock, SuperLength, SuperMagic, SuperChecksum, SuperFeatures, SuperOwner, SuperTail, BadOptions, BadReport, BadZone, TooFewRows, SuperPerm, LabelLength}
+use Rattle.types.specs.declared.Refusal.the-variants.{NoFile, Busy, ReadOnlyMount, Denied, BeyondCapacity, Misplaced, Failed, NothingOutstanding, BadRecord, Impossible, BadBlock, SuperLength, SuperMagic, SuperChecksum, SuperFeatures, SuperOwner, SuperTail, BadOptions, BadReport, BadZone, TooFewRows, SuperPerm, LabelLength, OpenLimit, ActiveLimit, NotOpen, TooManyOpens}
 use Rattle.types.specs.declared.RefusalCode.{RefusalCode}
 use Rattle.types.specs.declared.Values.{Values}
 use Rattle.types.specs.declared.Values.the-variants.{Nothing, One, Two}
@@ -76,6 +76,13 @@ refusalCode TooFewRows = plain 30
 refusalCode SuperPerm = plain 33
 -- 02: "a label longer than 64 bytes 34"
 refusalCode LabelLength = plain 34
+-- 02: "an open that would raise the open count above its limit answers 11, the active count 12"
+refusalCode OpenLimit = plain 11
+refusalCode ActiveLimit = plain 12
+-- 02: "A close .. answers 13 without an open; with the option so does a seq write to a file not open"
+refusalCode NotOpen = plain 13
+-- 02: "A 65,536th open of one file answers 14"
+refusalCode TooManyOpens = plain 14
 
 -- the values as a list
 abbrev pub listed : Values → List ℕ

@@ -85,6 +85,10 @@ pub fn refusal_code(x: Refusal) -> RefusalCode
         Refusal::TooFewRows => plain(30),
         Refusal::SuperPerm => plain(33),
         Refusal::LabelLength => plain(34),
+        Refusal::OpenLimit => plain(11),
+        Refusal::ActiveLimit => plain(12),
+        Refusal::NotOpen => plain(13),
+        Refusal::TooManyOpens => plain(14),
     }
 }
 

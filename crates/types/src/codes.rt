@@ -14,7 +14,7 @@ pub const KINDS: u64 = 2;
 
 pub const POLICIES: u64 = 4;
 
-pub const COMMANDS: u64 = 5;
+pub const COMMANDS: u64 = 7;
 
 // 1 for yes, 0 for no.
 pub fn flag_code(yes: bool) -> u64
@@ -104,6 +104,8 @@ pub fn command_code(k: CommandKind) -> u64
         CommandKind::Reset => 2,
         CommandKind::Finish => 3,
         CommandKind::Flush => 4,
+        CommandKind::Open => 5,
+        CommandKind::Close => 6,
     }
 }
 
@@ -116,7 +118,9 @@ pub fn command_from(code: u64) -> CommandKind
         1 => CommandKind::Write,
         2 => CommandKind::Reset,
         3 => CommandKind::Finish,
-        _ => CommandKind::Flush,
+        4 => CommandKind::Flush,
+        5 => CommandKind::Open,
+        _ => CommandKind::Close,
     }
 }
 

@@ -1,9 +1,9 @@
 // The values that every layer speaks of: files and their rows, commands, the mount, refusals and answers.
 pub mod answers; // what each answer is in numbers; a chain of checks
 pub mod codes; // the number of each kind, condition, access, policy and command, and back; of a zone's fault
-pub mod commands; // what a command moves, and whether it is a read
+pub mod commands; // what a command moves, and whether it is a read or an open
 pub mod effects; // what a call or a completion does where nothing is stored
-pub mod mounts; // the empty mount value, and what completions change of one
+pub mod mounts; // the empty mount value, and what calls and completions change of one
 pub mod predicates; // tests of a kind, a condition, an access, and of what is outstanding
 pub mod units; // sectors, blocks, and the limits of disks and mounts
 
@@ -40,6 +40,8 @@ pub enum CommandKind {
     Reset,
     Finish,
     Flush,
+    Open,
+    Close,
 }
 
 // What a command that is done moves: the size of its file, and the pointer of its zone.
@@ -76,14 +78,18 @@ pub struct Row {
     pub size: u64,
     pub condition: Condition,
     pub access: Access,
+    // How many opens for writing the file has.
+    pub opens: u64,
 }
 
-// A call on a file, with its arguments: offset and length, or the size wanted.
+// A call on a file, with its arguments: offset and length, or the size wanted. An open is for writing.
 pub enum Call {
     Read(u64, u64),
     Write(u64, u64),
     Truncate(u64),
     Flush,
+    Open,
+    Close,
 }
 
 // An issued command, with the file that it concerns.
@@ -102,13 +108,24 @@ pub struct Volume {
     pub group: u32,
     pub mode: u32,
     pub policy: ErrorPolicy,
+    // The option `explicit-open`.
+    pub explicit: bool,
     pub uuid: [u8; 16],
 }
 
-// A mount: what it fixes, and its read-only mark, which a completion may set.
+// The running account of sequential files: how many are open for writing and how many active, and the limit of each, where 0 is none.
+pub struct Account {
+    pub opened: u32,
+    pub active: u32,
+    pub open_limit: u32,
+    pub active_limit: u32,
+}
+
+// A mount: what it fixes, its read-only mark, which a completion may set, and its account, which opens, closes and completions correct.
 pub struct Mount {
     pub volume: Volume,
     pub readonly: bool,
+    pub account: Account,
 }
 
 // What is wrong with a zone, by the test that it fails first, in the order of the tests. The last two are for the record of a failed
@@ -155,6 +172,10 @@ pub enum Refusal {
     TooFewRows,
     SuperPerm,
     LabelLength,
+    OpenLimit,
+    ActiveLimit,
+    NotOpen,
+    TooManyOpens,
 }
 
 // The values that a refusal tells beside its number.

@@ -1,9 +1,19 @@
 // Tests of a kind, a condition, an access, and of what is outstanding.
 ghost use mathlib.Core.Path.{_≡_};
-ghost use Rattle.types.specs.Predicates.{isHealthy, isReadOnly, isOffline, isNone, isWrite, isBusy};
+ghost use Rattle.types.specs.Predicates.{isConventional, isHealthy, isReadOnly, isOffline, isNone, isWrite, isBusy};
 use crate::Access;
 use crate::Condition;
+use crate::FileKind;
 use crate::Outstanding;
+
+pub fn is_conventional(k: FileKind) -> bool
+    ensures { λ r. ⌜ r ≡ isConventional k ⌝ }
+{
+    match k {
+        FileKind::Conventional => true,
+        FileKind::Sequential => false,
+    }
+}
 
 pub fn is_healthy(c: Condition) -> bool
     ensures { λ r. ⌜ r ≡ isHealthy c ⌝ }

@@ -18,7 +18,7 @@ use lines::PLACES;
 fn words_from(kind: u8) -> usize {
     match kind {
         b's' | b'r' => 2,
-        b'm' => 5,
+        b'm' => 7,
         _ => PLACES,
     }
 }

@@ -3,9 +3,10 @@
 
 use std::collections::VecDeque;
 
+use super::accounts::account_fault;
 use super::answers::{
-    call_fault, call_moved, complete, completion_fault, Found, FAILED, GOOD, IMPOSSIBLE, NOTHING_OUTSTANDING,
-    NO_SUCH_FILE, RECORD_MISMATCH,
+    call_fault, call_moved, complete, completion_fault, limit_fault, Found, FAILED, GOOD, IMPOSSIBLE,
+    NOTHING_OUTSTANDING, NO_SUCH_FILE, RECORD_MISMATCH,
 };
 use super::model::{Choice, Disk, Mishap, Outcome};
 use super::truth::{is_true, shown_in, Shown, FREEDOMS};
@@ -13,9 +14,9 @@ use crate::player::calls::{Call, Reply};
 use crate::player::mount::{mount, Input};
 use crate::player::play::mount_volume;
 use crate::player::superblock;
-use crate::player::tape::{CallRecord, Named};
+use crate::player::tape::{CallRecord, Named, Verb};
 use crate::player::types::{
-    Access, Condition, FileKind, Operation, Outstanding, Policy, Refusal, Row, Volume, SECTOR,
+    Access, Account, Condition, FileKind, Operation, Outstanding, Policy, Refusal, Row, Volume, SECTOR,
 };
 use crate::player::zone::{self, Zone, HEADER, RECORD};
 
@@ -42,6 +43,8 @@ pub struct Compared {
     pub reports: [u64; FREEDOMS],
     /// Completions on copies that no run can have.
     pub impossible: u64,
+    /// Accounts that were compared with the rows, in runs of any sort.
+    pub accounts: u64,
 }
 
 impl Compared {
@@ -51,6 +54,7 @@ impl Compared {
         self.rows_beside += other.rows_beside;
         self.failures += other.failures;
         self.impossible += other.impossible;
+        self.accounts += other.accounts;
         add_each(&mut self.exceptions, &other.exceptions);
         add_each(&mut self.records, &other.records);
         add_each(&mut self.reports, &other.reports);
@@ -74,6 +78,8 @@ struct Story {
     /// What a fresh mount would have given when the file was last quiet with a healthy zone.
     last_size: u64,
     read_only_at_mount: bool,
+    /// By the answers, and not by the rows.
+    opens: u64,
 }
 
 /// One entry of the list, kept to be shown when a check fails.
@@ -136,6 +142,7 @@ impl Run {
             recovered: false,
             last_size: zone.map_or(0, size_if_healthy),
             read_only_at_mount: zone.is_some_and(|zone| zone.health() == Condition::ReadOnly),
+            opens: 0,
         };
         let mut run = Run {
             input: input.clone(),
@@ -180,12 +187,26 @@ impl Run {
         let before = self.volume.clone();
         let answer = self.volume.recorded_call(record);
         self.note(Entry::Call(*record, answer));
-        self.complain_of(call_fault(found, &answer))?;
-        self.complain_of(call_moved(&named, &answer, &before, &self.volume))?;
-        if let (Ok(Reply::Issued(command)), Some((kind, number))) = (answer, named.file()) {
-            self.outstanding.push(Outstanding { kind, number, command });
+        self.complain_of(call_fault(found, record.verb, &answer))?;
+        self.complain_of(call_moved(record, &answer, &before, &self.volume))?;
+        self.complain_of(limit_fault(&answer, &answer_without_limits(before, record)))?;
+        if let (Ok(reply), Some((kind, number))) = (answer, named.file()) {
+            if let Reply::Issued(command) = reply {
+                self.outstanding.push(Outstanding { kind, number, command });
+            }
+            self.count_opens(kind, number, record.verb);
         }
         self.end_entry()
+    }
+
+    /// A file is open "from the moment its first open is commanded or answered until its last close is".
+    fn count_opens(&mut self, kind: FileKind, number: u32, verb: Verb) {
+        let opens = &mut self.story(kind, number).opens;
+        match (kind, verb) {
+            (FileKind::Sequential, Verb::Open) => *opens += 1,
+            (FileKind::Sequential, Verb::Close) => *opens = opens.saturating_sub(1),
+            _ => {}
+        }
     }
 
     /// Whether the file is there, by the zones, and busy, by what the disk has yet to do.
@@ -313,17 +334,24 @@ impl Run {
         }
     }
 
-    /// The file of the command is quiet again, unless all that was seen is a good read.
+    /// The file of the command is quiet again, unless all that was seen is a good read; an open and a close "done well count
+    /// as a good read". Its opens go with "a failed open or the loss of write access".
     fn note_completion(&mut self, command: &Outstanding, outcome: &Outcome) {
-        let read = command.command.operation == Operation::Read;
+        let operation = command.command.operation;
+        let read = operation == Operation::Read;
+        let like_read = matches!(operation, Operation::Read | Operation::Open | Operation::Close);
         let zone = self.disk.zones[outcome.zone];
+        let lost = self.volume.row(command.kind, command.number).access != Access::Write;
         let story = self.story(command.kind, command.number);
+        if outcome.failed && (lost || operation == Operation::Open) {
+            story.opens = 0;
+        }
         // Only sequential files are compared, so only their recoveries matter.
         if outcome.failed && command.kind == FileKind::Sequential {
             let as_before = zone.health() == Condition::Healthy && size_if_healthy(&zone) == story.last_size;
             story.recovered |= !(read && as_before);
         }
-        story.quiet |= outcome.failed || !read;
+        story.quiet |= outcome.failed || !like_read;
     }
 
     fn story(&mut self, kind: FileKind, number: u32) -> &mut Story {
@@ -339,18 +367,23 @@ impl Run {
         }
     }
 
-    /// A completion may have changed the row of its file, and by a failure under remount-ro set the mark. What other
-    /// files have outstanding stays in their rows.
+    /// A completion may have changed the row of its file, with a sequential one's the account's two numbers, and by a
+    /// failure under remount-ro set the mark. What other files have outstanding stays in their rows.
     fn check_frame(&self, before: &Volume, command: &Outstanding, failed: bool) -> Result<(), String> {
         let mut expected = before.clone();
         let may_mark = failed && before.mount.policy == Policy::RemountReadOnly;
         expected.mount.read_only |= may_mark && self.volume.mount.read_only;
         *expected.row_mut(command.kind, command.number) = *self.volume.row(command.kind, command.number);
+        if command.kind == FileKind::Sequential {
+            let Account { open, active, .. } = self.volume.account;
+            expected.account = Account { open, active, ..before.account };
+        }
         let moved = expected != self.volume;
         self.complain_of(moved.then(|| "something moved beside the row that was concerned".to_string()))
     }
 
-    /// Between entries: last sizes are taken, and each file that has nothing outstanding is compared with a fresh mount.
+    /// Between entries: last sizes are taken, each file that has nothing outstanding is compared with a fresh mount, and the
+    /// opens of all files and the account with what they must be.
     fn end_entry(&mut self) -> Result<(), String> {
         for (story, &zone) in self.seq.iter_mut().zip(&self.seq_zone) {
             let zone = &self.disk.zones[zone];
@@ -360,7 +393,20 @@ impl Run {
         }
         self.compared.states += 1;
         let fresh = self.fresh_rows()?;
-        self.compare_rows(&fresh)
+        self.compare_rows(&fresh)?;
+        self.complain_of(self.opens_fault())?;
+        self.compared.accounts += 1;
+        self.complain_of(account_fault(&self.volume))
+    }
+
+    /// What is wrong with the opens of any row.
+    fn opens_fault(&self) -> Option<String> {
+        let of_kind = |kind: FileKind, stories: &[Story]| {
+            let mut rows = self.volume.rows(kind).iter().zip(stories).enumerate();
+            let (number, (row, story)) = rows.find(|(_, (row, story))| row.opens != story.opens)?;
+            Some(format!("{kind:?} file {number} has {} opens and not {}", row.opens, story.opens))
+        };
+        of_kind(FileKind::Sequential, &self.seq).or_else(|| of_kind(FileKind::Conventional, &self.cnv))
     }
 
     /// Every quiet sequential file with nothing outstanding.
@@ -410,6 +456,8 @@ impl Run {
             Some(1) => Row { size: 0, access: Access::None, condition: health, ..*fresh },
             Some(_) => Row { size: story.last_size, access: Access::Read, condition: health, ..*fresh },
         };
+        // A fresh mount opens nothing.
+        let expected = Row { opens: story.opens, ..expected };
         let row = self.volume.seq[number];
         if row != expected {
             let what = format!("seq/{number} is {row:?}, expected {expected:?}, fresh {fresh:?}, {story:?}");
@@ -439,6 +487,12 @@ impl Run {
         }
         text
     }
+}
+
+/// What a call is answered on the same volume with no limit.
+fn answer_without_limits(mut volume: Volume, record: &CallRecord) -> Result<Reply, Refusal> {
+    (volume.account.open_limit, volume.account.active_limit) = (0, 0);
+    volume.recorded_call(record)
 }
 
 /// Which exception a quiet sequential file falls under.

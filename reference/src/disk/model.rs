@@ -3,7 +3,7 @@
 use std::ops::RangeInclusive;
 
 use crate::player::types::{Command, Condition, Operation, SECTOR};
-use crate::player::zone::{Zone, EMPTY, FULL, IMPLICIT_OPEN, OFFLINE, READ_ONLY};
+use crate::player::zone::{Zone, CLOSED, EMPTY, EXPLICIT_OPEN, FULL, IMPLICIT_OPEN, OFFLINE, READ_ONLY};
 
 #[derive(Clone, Copy, Debug, PartialEq, Eq)]
 pub enum Mishap {
@@ -15,12 +15,23 @@ pub enum Mishap {
     BecomesOffline,
 }
 
-/// What the disk chooses when it does a command. The last two matter only if the command fails.
+/// "On the disk open and close move no pointer .. and may leave condition 3 or 4."
+#[derive(Clone, Copy, Debug, PartialEq, Eq)]
+pub enum Leaves {
+    /// 1, 2 or 14.
+    AsThePointerSays,
+    ExplicitlyOpen,
+    Closed,
+}
+
+/// What the disk chooses when it does a command. The next two matter only if the command fails, the last only to an open or
+/// a close that is done well.
 #[derive(Clone, Copy, Debug, PartialEq, Eq)]
 pub struct Choice {
     pub fail: bool,
     pub landed_blocks: u64,
     pub mishap: Option<Mishap>,
+    pub leaves: Leaves,
 }
 
 #[derive(Clone, Copy, Debug, PartialEq, Eq)]
@@ -58,7 +69,9 @@ impl Disk {
                     return false;
                 }
                 let fallen = blocks.min((zone.pointer - zone.start) / step);
-                move_pointer(zone, zone.pointer - fallen * step);
+                if fallen > 0 {
+                    move_pointer(zone, zone.pointer - fallen * step);
+                }
                 fallen > 0
             }
             Mishap::BecomesReadOnly if health == Condition::Healthy => {
@@ -77,7 +90,7 @@ impl Disk {
     pub fn perform(&mut self, command: &Command, quiet: bool, choice: &Choice) -> Outcome {
         let zone = self.zone_at(command.address);
         if !choice.fail && !self.must_fail(command, quiet) {
-            self.carry_out(zone, command);
+            self.carry_out(zone, command, choice.leaves);
             return Outcome { zone, failed: false, mishap: false };
         }
         if command.operation == Operation::Write && self.takes_write(zone, command.address) {
@@ -107,7 +120,7 @@ impl Disk {
                 touched.any(|zone| self.zones[zone].health() != Condition::Healthy)
                     || !self.takes_write(self.zone_at(command.address), command.address)
             }
-            Operation::Reset | Operation::Finish => {
+            Operation::Reset | Operation::Finish | Operation::Open | Operation::Close => {
                 touched.any(|zone| self.zones[zone].health() != Condition::Healthy)
             }
             Operation::Flush => !quiet,
@@ -120,7 +133,7 @@ impl Disk {
         zone.health() == Condition::Healthy && (zone.is_conventional() || zone.pointer * SECTOR == address)
     }
 
-    fn carry_out(&mut self, zone: usize, command: &Command) {
+    fn carry_out(&mut self, zone: usize, command: &Command, leaves: Leaves) {
         match command.operation {
             Operation::Read | Operation::Flush => {}
             Operation::Write => self.advance(zone, command.length / SECTOR),
@@ -132,6 +145,7 @@ impl Disk {
                 let zone = &mut self.zones[zone];
                 move_pointer(zone, zone.start + zone.capacity);
             }
+            Operation::Open | Operation::Close => leave(&mut self.zones[zone], leaves),
         }
     }
 
@@ -160,4 +174,13 @@ fn move_pointer(zone: &mut Zone, pointer: u64) {
     } else {
         IMPLICIT_OPEN
     };
+}
+
+/// What an open or a close makes of a healthy sequential zone.
+fn leave(zone: &mut Zone, leaves: Leaves) {
+    match leaves {
+        Leaves::AsThePointerSays => move_pointer(zone, zone.pointer),
+        Leaves::ExplicitlyOpen => zone.condition = EXPLICIT_OPEN,
+        Leaves::Closed => zone.condition = CLOSED,
+    }
 }

@@ -6,13 +6,13 @@ use super::random::Random;
 use super::records::encode;
 use super::shape;
 use super::wild;
-use crate::player::tape::{Named, Next, Reader, Record, NAMED_LENGTH};
+use crate::player::tape::{Named, Next, Reader, Record, LIMITS_LENGTH, NAMED_LENGTH};
 use crate::player::zone;
 
 /// A broken tape, or one that is just not broken.
 pub fn tape(random: &mut Random) -> Vec<u8> {
-    let tape = wild::tape(random);
-    match random.below(9) {
+    let (tape, _) = wild::tape(random);
+    match random.below(10) {
         0 => cut(random, tape),
         1 => cut_at_a_record(random, &tape),
         2 => cut_a_completion(random, &tape),
@@ -21,6 +21,7 @@ pub fn tape(random: &mut Random) -> Vec<u8> {
         5 => insert(random, &tape),
         6 => miscount(random, tape),
         7 => flip(random, tape),
+        8 => cut_the_mount(random, &tape),
         _ => nothing_much(random),
     }
 }
@@ -28,10 +29,10 @@ pub fn tape(random: &mut Random) -> Vec<u8> {
 /// Adds something to the end that stops the player, and something after it.
 pub fn spoil_end(random: &mut Random, tape: &mut Vec<u8>) {
     match random.below(8) {
-        0 => tape.push(random.pick(b"ROWNTFBSZM?\0")),
-        1 => tape.extend_from_slice(random.pick(&[b"??", b"rd", b"KO", b"\0\0", b"ON"])),
+        0 => tape.push(random.pick(b"ROWNTFBSZMC?\0")),
+        1 => tape.extend_from_slice(random.pick(&[b"??", b"rd", b"KO", b"\0\0", b"ON", b"op", b"LC", b"OC"])),
         2 => encode(&Record::Block(512), tape),
-        3 => encode(&Record::Options(b""), tape),
+        3 => encode(&Record::Mount { options: b"", open_limit: 0, active_limit: 0 }, tape),
         _ => {
             // Nothing may follow, as it would be taken for the rest.
             let record = any_record(random);
@@ -97,6 +98,14 @@ fn cut_a_completion(random: &mut Random, tape: &[u8]) -> Vec<u8> {
     tape[..end - random.between(1, missing as u64) as usize].to_vec()
 }
 
+/// Cuts the record of the options and limits anywhere in it, mostly in the limits.
+fn cut_the_mount(random: &mut Random, tape: &[u8]) -> Vec<u8> {
+    let starts = starts(tape);
+    let (start, end) = (starts[3], starts[4]);
+    let missing = if random.percent(80) { LIMITS_LENGTH } else { end - start - 1 };
+    tape[..end - random.between(1, missing as u64) as usize].to_vec()
+}
+
 /// Swaps, drops or repeats one of the first records.
 fn reorder(random: &mut Random, tape: &[u8]) -> Vec<u8> {
     let starts = starts(tape);
@@ -126,7 +135,10 @@ fn insert(random: &mut Random, tape: &[u8]) -> Vec<u8> {
     let mut result = tape[..at].to_vec();
     match random.below(3) {
         0 => encode(&Record::Block(4096), &mut result),
-        1 => encode(&Record::Options(b"errors=repair"), &mut result),
+        1 => {
+            let mount = Record::Mount { options: b"errors=repair", open_limit: 1, active_limit: 2 };
+            encode(&mount, &mut result);
+        }
         _ => result.extend_from_slice(&any_record(random)),
     }
     result.extend_from_slice(&tape[at..]);

@@ -8,7 +8,7 @@ use crate::player::types::{Access, FileKind, Row, Volume};
 pub const NO_KINDS: [u8; 4] = [2, 3, 128, 255];
 /// Numbers that few disks have a file of, or none.
 pub const HIGH_NUMBERS: [u64; 5] = [1021, 1022, 1023, 65_536, u32::MAX as u64];
-const VERBS: [Verb; 4] = [Verb::Read, Verb::Write, Verb::Truncate, Verb::Flush];
+pub const VERBS: [Verb; 6] = [Verb::Read, Verb::Write, Verb::Truncate, Verb::Flush, Verb::Open, Verb::Close];
 
 /// A call on nothing in particular.
 pub fn any_call(random: &mut Random) -> CallRecord {
@@ -26,17 +26,36 @@ pub struct Focus {
 /// A call on one of the volume's files, mostly.
 pub fn call(random: &mut Random, volume: &Volume, focus: &Focus) -> CallRecord {
     let (kind, number, row) = lively_file(random, volume, focus);
-    // A read-only mount refuses all but reads before it looks at them.
-    let weights = if volume.mount.read_only { [76, 10, 7, 7] } else { [24, 42, 20, 14] };
-    let verb = VERBS[random.weighted(&weights)];
+    let verb = VERBS[random.weighted(&weights(volume, kind, &row))];
     let block = volume.mount.block;
     let (offset, length) = match verb {
         Verb::Read => read_arguments(random, &row, block),
         Verb::Write => write_arguments(random, &row, block, kind == 1),
         Verb::Truncate => (random.word(), truncate_size(random, &row, block)),
-        Verb::Flush => (random.word(), random.word()),
+        Verb::Flush | Verb::Open | Verb::Close => (random.word(), random.word()),
     };
     CallRecord { verb, kind, number, offset, length }
+}
+
+/// In the order of the verbs.
+fn weights(volume: &Volume, kind: u8, row: &Row) -> [u64; 6] {
+    let must_be_open = volume.mount.explicit_open && kind == 1;
+    if volume.mount.read_only {
+        // All but reads and closes are refused before they are looked at.
+        [60, 9, 6, 6, 7, 12]
+    } else if must_be_open && row.opens == 0 {
+        // Writes are refused until the file is open.
+        [14, 10, 13, 9, 48, 6]
+    } else if must_be_open && row.size == row.capacity {
+        // A reset makes it active, whatever the limit is.
+        [16, 8, 44, 8, 9, 15]
+    } else if must_be_open && row.opens > 1 {
+        [14, 32, 13, 8, 5, 28]
+    } else if must_be_open {
+        [16, 36, 14, 9, 5, 20]
+    } else {
+        [22, 36, 17, 11, 8, 6]
+    }
 }
 
 /// Looks a few times for a file that can be used at all.

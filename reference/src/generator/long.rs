@@ -10,8 +10,11 @@ use crate::player::mount::Input;
 use crate::player::options;
 use crate::player::types::Condition;
 
-/// The only policy that leaves the mount and its healthy files writable after a failure.
-const OPTIONS: &[u8] = b"errors=repair";
+/// The only policy that leaves the mount and its healthy files writable after a failure. Files are opened by hand.
+const OPTIONS: &[u8] = b"errors=repair,explicit-open";
+/// Nothing meets them, so no file is kept from being opened.
+const OPEN_LIMIT: u32 = 1022;
+const ACTIVE_LIMIT: u32 = u32::MAX;
 /// The most bytes that can be added to the options.
 pub const MAX_PAD: u64 = (options::MAX_LENGTH - OPTIONS.len()) as u64;
 /// So many calls go mostly to the same few files, with the same chances of failures and mishaps.
@@ -58,7 +61,8 @@ fn finish(random: &mut Random, run: &mut Run, tape: &mut Vec<u8>) -> Result<(), 
 fn begin(random: &mut Random) -> Result<(Input, Run), String> {
     loop {
         let shape = shape::with_zones(random, |random| random.between(60, 100));
-        let input = shape::input(random, &Shape { options: OPTIONS.to_vec(), ..shape });
+        let (options, open_limit, active_limit) = (OPTIONS.to_vec(), OPEN_LIMIT, ACTIVE_LIMIT);
+        let input = shape::input(random, &Shape { options, open_limit, active_limit, ..shape });
         let run = Run::begin(&input)?;
         let mount = &run.volume.mount;
         if mount.cnv_files.min(mount.seq_files) >= FEWEST_FILES {

@@ -13,7 +13,10 @@ pub fn encode(record: &Record, tape: &mut Vec<u8>) {
         Record::Block(block) => put("BK", &[&block.to_le_bytes()]),
         Record::SuperBlock(bytes) => put("SB", &[bytes]),
         Record::Report(bytes) => put("ZR", &[bytes]),
-        Record::Options(text) => put("MO", &[&[text.len() as u8], text]),
+        Record::Mount { options, open_limit, active_limit } => {
+            let limits = [open_limit.to_le_bytes(), active_limit.to_le_bytes()].concat();
+            put("MO", &[&[options.len() as u8], options, &limits]);
+        }
         Record::Call(call) => {
             let (offset, length) = (call.offset.to_le_bytes(), call.length.to_le_bytes());
             put(call.verb.mark(), &[&named_bytes(&call.named()), &offset, &length]);
@@ -35,6 +38,8 @@ pub fn head(input: &Input) -> Vec<u8> {
     encode(&Record::Block(input.block), &mut tape);
     encode(&Record::SuperBlock(&input.super_block), &mut tape);
     encode(&Record::Report(&input.report), &mut tape);
-    encode(&Record::Options(&input.options), &mut tape);
+    let Input { options, open_limit, active_limit, .. } = input;
+    let mount = Record::Mount { options, open_limit: *open_limit, active_limit: *active_limit };
+    encode(&mount, &mut tape);
     tape
 }

@@ -156,7 +156,7 @@ fn spoil_header(random: &mut Random, report: &mut Vec<u8>) {
 }
 
 /// Each is wrong in its own way.
-const BAD_OPTIONS: [&str; 30] = [
+const BAD_OPTIONS: [&str; 48] = [
     "errors=",
     "errors",
     "errors=x",
@@ -171,7 +171,6 @@ const BAD_OPTIONS: [&str; 30] = [
     "errors=repai",
     "error=repair",
     "errors=zone-ro;errors=repair",
-    "explicit-open",
     "errors=remount_ro",
     "errors=errors=repair",
     "errors=repair=",
@@ -187,11 +186,33 @@ const BAD_OPTIONS: [&str; 30] = [
     "errors=repair,errors=zone-r",
     "errors=zone-offlin",
     "errors==repair",
+    "explicit-open ",
+    " explicit-open",
+    "Explicit-open",
+    "EXPLICIT-OPEN",
+    "explicit-Open",
+    "explicit-openx",
+    "explicit-open\0",
+    "explicit-open=",
+    "explicit-open=1",
+    "explicit_open",
+    "explicit-open;errors=repair",
+    "explicit-openerrors=repair",
+    "explicit-openexplicit-open",
+    "explicit-open,explicit",
+    "explicit-open,errors=",
+    "errors=explicit-open",
+    "no-explicit-open",
+    "errors=repair,explicit-ope",
+    "explicit-open,errors=repair,x",
 ];
 
-fn bad_options(random: &mut Random) -> Vec<u8> {
-    if random.percent(75) {
+pub fn bad_options(random: &mut Random) -> Vec<u8> {
+    if random.percent(65) {
         return random.pick(&BAD_OPTIONS).as_bytes().to_vec();
+    }
+    if random.percent(50) {
+        return bad_explicit_open(random);
     }
     let mut noise = vec![0; random.between(1, 255) as usize];
     random.fill(&mut noise);
@@ -201,6 +222,24 @@ fn bad_options(random: &mut Random) -> Vec<u8> {
         noise[1..].fill(b',');
     }
     noise
+}
+
+/// The option cut short, or with a bit flipped, alone or between good pieces.
+fn bad_explicit_open(random: &mut Random) -> Vec<u8> {
+    let mut piece = b"explicit-open".to_vec();
+    if random.percent(50) {
+        piece.truncate(random.between(1, 12) as usize);
+    } else {
+        piece[random.below(13) as usize] ^= 1 << random.below(8);
+    }
+    let (front, back): (&[u8], &[u8]) = random.pick(&[
+        (b"", b""),
+        (b"explicit-open,", b""),
+        (b"errors=repair,", b","),
+        (b"", b",errors=zone-ro"),
+        (b",,", b",explicit-open"),
+    ]);
+    [front, &piece, back].concat()
 }
 
 /// Makes one zone of a report bad.

@@ -2,11 +2,10 @@
 //! at most, so it is made a lively one.
 
 use super::random::Random;
-use super::records::encode;
 use super::runs::{do_command, Course};
+use super::stories::{call, leave_a_close};
 use crate::disk::consistency::Run;
 use crate::player::calls::{Call, Request};
-use crate::player::tape::{CallRecord, Record};
 use crate::player::types::{Access, FileKind, Operation, Outstanding, Policy, Row};
 
 /// Whether the moment can still come.
@@ -25,8 +24,11 @@ pub fn fail_one_of_many(
     if !is_ahead(run) {
         return Ok(());
     }
-    for _ in 0..random.between(3, 10) {
-        issue(random, run, tape)?;
+    if run.volume.mount.explicit_open {
+        leave_a_close(random, run, course, tape)?;
+    }
+    for _ in 0..random.between(4, 14) {
+        issue(random, run, course, tape)?;
     }
     let writes = |of: &&Outstanding| of.command.operation != Operation::Read;
     let failing: Vec<Outstanding> = run.outstanding().iter().filter(writes).copied().collect();
@@ -38,27 +40,42 @@ pub fn fail_one_of_many(
 }
 
 /// A command for some file that can be written and isn't busy, if one is found.
-fn issue(random: &mut Random, run: &mut Run, tape: &mut Vec<u8>) -> Result<(), String> {
+fn issue(random: &mut Random, run: &mut Run, course: &Course, tape: &mut Vec<u8>) -> Result<(), String> {
     let kind = if random.percent(25) { FileKind::Conventional } else { FileKind::Sequential };
     let number = random.below(run.volume.files(kind).min(12) as u64) as u32;
     let row = *run.volume.row(kind, number);
     if row.access != Access::Write || row.held.is_outstanding() {
         return Ok(());
     }
+    if must_be_opened(run, kind, &row) {
+        call(run, &Call { kind, number, request: Request::Open }, tape)?;
+        match run.volume.outstanding(kind, number) {
+            // Most of the opens are left to be done later, as others are.
+            Some(of) if random.percent(40) => {
+                do_command(random, run, &Course { failures: 0, ..*course }, &of, tape)?
+            }
+            _ => return Ok(()),
+        }
+    }
+    let row = *run.volume.row(kind, number);
     let request = request(random, kind, &row, run.volume.mount.block);
-    let record = CallRecord::of(&Call { kind, number, request });
-    encode(&Record::Call(record), tape);
-    run.recorded_call(&record)
+    call(run, &Call { kind, number, request }, tape)
 }
 
-/// One that issues a command. A full file isn't written or finished, and an empty one isn't reset.
+/// Without that the file isn't written.
+fn must_be_opened(run: &Run, kind: FileKind, row: &Row) -> bool {
+    run.volume.mount.explicit_open && kind == FileKind::Sequential && row.opens == 0
+}
+
+/// One that issues a command, mostly. A full file isn't written or finished, and an empty one isn't reset.
 fn request(random: &mut Random, kind: FileKind, row: &Row, block: u64) -> Request {
     let sequential = kind == FileKind::Sequential;
     let offset = if sequential { row.size } else { row.capacity - block };
-    match random.weighted(&[28, 14, 44, 14]) {
+    match random.weighted(&[24, 12, 34, 12, 18]) {
         0 if sequential && row.size > 0 => Request::Truncate { size: 0 },
         0 | 1 if sequential && row.size < row.capacity => Request::Truncate { size: row.capacity },
         2 if offset < row.capacity => Request::Write { offset, length: block },
+        4 if sequential && row.opens == 1 => Request::Close,
         _ => Request::Flush,
     }
 }

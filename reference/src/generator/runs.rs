@@ -9,9 +9,9 @@ use super::records::{encode, head};
 use super::remount::fail_one_of_many;
 use super::shape::{self, Shape};
 use super::strays::{another, any_name, any_of, TOGETHER};
-use super::{truthful, Generated};
+use super::{stories, truthful, Generated};
 use crate::disk::consistency::Run;
-use crate::disk::model::{Choice, Mishap};
+use crate::disk::model::{Choice, Leaves, Mishap};
 use crate::disk::truth::Shown;
 use crate::player::mount::Input;
 use crate::player::tape::{Named, Record};
@@ -77,6 +77,9 @@ fn drive(random: &mut Random, shape: &Shape, input: &Input, tape: &mut Vec<u8>) 
             fail_one_of_many(random, &mut run, &course, tape)?;
         }
         step(random, &mut run, &course, tape)?;
+        if random.percent(5) {
+            stories::tell(random, &mut run, &course, tape)?;
+        }
         if random.percent(10) {
             impossible_completion(random, &mut run)?;
         }
@@ -159,7 +162,8 @@ pub fn do_command(
         _ => random.below(blocks + 1),
     };
     let mishap = random.percent(30).then(|| mishap(random, course));
-    let choice = Choice { fail: random.percent(course.failures), landed_blocks, mishap };
+    let leaves = random.pick(&[Leaves::AsThePointerSays, Leaves::ExplicitlyOpen, Leaves::Closed]);
+    let choice = Choice { fail: random.percent(course.failures), landed_blocks, mishap, leaves };
     let completion = run.doing(of.kind, of.number, &choice, |zone| (course.show)(random, zone))?;
     let named = Named::of(of.kind, of.number);
     match completion {
@@ -186,7 +190,7 @@ fn untrue_completion(
     tape: &mut Vec<u8>,
 ) -> Result<(), String> {
     let named = Named::of(of.kind, of.number);
-    let other = another(random, run.outstanding(), of).filter(|_| random.percent(30));
+    let other = another(random, run.outstanding(), of).filter(|_| random.percent(50));
     let shown = match other {
         Some(other) => truthful::record(random, &zone_of(run, &other)),
         None => Shown::with_capacity_given(damaged_record(random, &run.volume, of)),

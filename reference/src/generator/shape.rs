@@ -4,7 +4,7 @@ use super::random::Random;
 use crate::player::mount::Input;
 use crate::player::types::{put, DISK_LIMIT, SECTOR};
 use crate::player::zone::{Zone, HEADER, RECORD};
-use crate::player::{superblock, zone};
+use crate::player::{options, superblock, zone};
 
 /// Perms that are good in use; the last is the highest.
 pub const MODES: [u32; 3] = [0, 0o640, 0o777];
@@ -18,6 +18,8 @@ pub struct Shape {
     pub zones: Vec<Zone>,
     pub features: u64,
     pub options: Vec<u8>,
+    pub open_limit: u32,
+    pub active_limit: u32,
 }
 
 pub fn shape(random: &mut Random) -> Shape {
@@ -30,7 +32,9 @@ pub fn with_zones(random: &mut Random, count: impl Fn(&mut Random) -> u64) -> Sh
     let capacity_given = random.percent(70);
     let count = count(random);
     let zones = zones(random, u64::from(block) / SECTOR, count, capacity_given);
-    Shape { block, capacity_given, zones, features: random.below(16), options: good_options(random) }
+    let (open_limit, active_limit) = limits(random, &zones);
+    let (features, options) = (random.below(16), good_options(random));
+    Shape { block, capacity_given, zones, features, options, open_limit, active_limit }
 }
 
 /// The disk's zones as bytes: every byte that must be ignored is noise.
@@ -40,6 +44,8 @@ pub fn input(random: &mut Random, shape: &Shape) -> Input {
         super_block: super_block(random, shape.features),
         report: report(random, shape),
         options: shape.options.clone(),
+        open_limit: shape.open_limit,
+        active_limit: shape.active_limit,
     }
 }
 
@@ -149,13 +155,69 @@ fn ill_or(random: &mut Random, percent: u64, healthy: u8) -> u8 {
     }
 }
 
+/// None, low ones that are soon met, those that the mount meets or lies above already, and those that nothing meets. Often
+/// both are low, as the order of 11 and 12 shows only there.
+fn limits(random: &mut Random, zones: &[Zone]) -> (u32, u32) {
+    let files = zones.iter().skip(1).filter(|zone| !zone.is_conventional());
+    let begun = |zone: &&Zone| {
+        let written =
+            zone.pointer_counts() && (zone.start + 1..zone.start + zone.capacity).contains(&zone.pointer);
+        written && zone.condition != zone::FULL
+    };
+    let (all, active) = (files.clone().count() as u32, files.filter(begun).count() as u32);
+    if random.percent(15) {
+        return (
+            random.pick(&[1, 1, 2]),
+            random.pick(&[1, active.max(1), active + 1, active + 1, active + 2]),
+        );
+    }
+    let limit = |random: &mut Random, now: u32| match random.weighted(&[54, 6, 8, 8, 10, 6, 8]) {
+        0 => 0,
+        1 => 1,
+        2 => 2,
+        // 0 means none.
+        3 => now,
+        4 => now + random.between(1, 4) as u32,
+        5 => now.saturating_sub(1),
+        _ => random.pick(&[all, all.saturating_sub(1), 1022, 65_536, 1 << 31, u32::MAX]),
+    };
+    (limit(random, 2), limit(random, active))
+}
+
+const EXPLICIT_OPEN: &str = "explicit-open";
+
 fn good_options(random: &mut Random) -> Vec<u8> {
+    let policies = policies(random);
+    let text = if random.percent(50) { with_explicit_open(random, &policies) } else { policies };
+    text.into_bytes()
+}
+
+/// The piece stands anywhere among the others, now and then again. Some of the others go if there are too many.
+fn with_explicit_open(random: &mut Random, policies: &str) -> String {
+    if policies.is_empty() {
+        return EXPLICIT_OPEN.to_string();
+    }
+    let mut pieces: Vec<&str> = policies.split(',').collect();
+    for _ in 0..random.pick(&[1, 1, 1, 1, 2, 3]) {
+        pieces.insert(random.between(0, pieces.len() as u64) as usize, EXPLICIT_OPEN);
+    }
+    while pieces.join(",").len() > options::MAX_LENGTH {
+        let policy = pieces.iter().position(|&piece| piece != EXPLICIT_OPEN);
+        pieces.remove(policy.unwrap_or(0));
+    }
+    let text = pieces.join(",");
+    // As long as they can be, if they were.
+    let width = if policies.len() == options::MAX_LENGTH { options::MAX_LENGTH } else { 0 };
+    format!("{text:,<width$}")
+}
+
+fn policies(random: &mut Random) -> String {
     // Repair leaves files usable after a failure, so it has the longest stories to tell.
     let piece = |random: &mut Random| {
         let all = ["errors=remount-ro", "errors=zone-ro", "errors=zone-offline", "errors=repair"];
         all[random.weighted(&[20, 20, 20, 40])]
     };
-    let text = match random.weighted(&[8, 70, 12, 6, 4]) {
+    match random.weighted(&[8, 70, 12, 6, 4]) {
         0 => String::new(),
         1 => piece(random).to_string(),
         2 => format!("{},{}", piece(random), piece(random)),
@@ -167,8 +229,7 @@ fn good_options(random: &mut Random) -> Vec<u8> {
             }
             format!("{long:,<255}")
         }
-    };
-    text.into_bytes()
+    }
 }
 
 pub fn super_block(random: &mut Random, features: u64) -> Vec<u8> {

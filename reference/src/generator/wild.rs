@@ -7,28 +7,48 @@ use super::random::Random;
 use super::records::{encode, head};
 use super::shape;
 use super::strays::{another, any_name, any_of, as_if_outstanding, TOGETHER};
+use super::Generated;
+use crate::disk::accounts::account_fault;
+use crate::disk::consistency::Compared;
 use crate::player::play::mount_volume;
 use crate::player::tape::{Named, Record};
 use crate::player::types::{Condition, Outstanding, Volume};
 use crate::player::zone::RECORD;
 
-pub fn tape(random: &mut Random) -> Vec<u8> {
+/// The account is compared with the rows after every record.
+pub fn checked(random: &mut Random) -> Generated {
+    let (bytes, check) = tape(random);
+    Generated { bytes, check }
+}
+
+pub fn tape(random: &mut Random) -> (Vec<u8>, Result<Compared, String>) {
     let shape = shape::shape(random);
     let input = shape::input(random, &shape);
     let mut tape = head(&input);
-    let Ok(mut volume) = mount_volume(&input) else { return tape };
+    let mut compared = Compared::default();
+    let Ok(mut volume) = mount_volume(&input) else { return (tape, Ok(compared)) };
     let steps = if shape.zones.len() == 1 { 8 } else { random.pick(&[10, 40, 120]) };
     let together = random.pick(&TOGETHER);
     for _ in 0..steps {
         step(random, &mut volume, together, &mut tape);
+        if let Err(fault) = compare_account(&volume, &mut compared) {
+            return (tape, Err(fault));
+        }
     }
     if random.percent(15) {
         spoil_end(random, &mut tape);
     }
-    tape
+    (tape, Ok(compared))
 }
 
-fn step(random: &mut Random, volume: &mut Volume, together: usize, tape: &mut Vec<u8>) {
+/// Err says how the account differs from the rows.
+pub fn compare_account(volume: &Volume, compared: &mut Compared) -> Result<(), String> {
+    compared.accounts += 1;
+    account_fault(volume).map_or(Ok(()), |fault| Err(format!("any completions: {fault}")))
+}
+
+/// A call or a completion of any sort.
+pub fn step(random: &mut Random, volume: &mut Volume, together: usize, tape: &mut Vec<u8>) {
     let outstanding = volume.all_outstanding();
     let completions = match outstanding.len() {
         0 => 10,

@@ -1,10 +1,14 @@
-//! Finding and showing files, and deciding reads, writes, truncations and flushes.
+//! Finding and showing files, and deciding reads, writes, truncations, flushes, opens and closes.
 
+use super::account::is_open;
 use super::tape::{CallRecord, Named};
 use super::types::{
-    block_is_known, sum_within, Access, Command, Condition, FileKind, Held, Mount, Operation, Refusal, Row,
-    Volume, DISK_LIMIT, MAX_FILES, SECTOR,
+    block_is_known, sum_within, Access, Account, Command, Condition, FileKind, Held, Mount, Operation,
+    Refusal, Row, Volume, DISK_LIMIT, MAX_FILES, SECTOR,
 };
+
+/// No file has more opens: "a 65,536th open of one file answers 14".
+pub const MAX_OPENS: u64 = 65_535;
 
 #[derive(Clone, Copy, Debug, PartialEq, Eq)]
 pub enum Request {
@@ -12,6 +16,8 @@ pub enum Request {
     Write { offset: u64, length: u64 },
     Truncate { size: u64 },
     Flush,
+    Open,
+    Close,
 }
 
 #[derive(Clone, Copy, Debug, PartialEq, Eq)]
@@ -29,16 +35,15 @@ pub enum Reply {
 }
 
 impl Volume {
-    /// Decides a call and stores the command it issues, if any, in the file's row. Any other answer changes nothing.
+    /// Decides a call and stores the command it issues, if any, in the file's row. An open or a close that isn't refused
+    /// counts there too. Any other answer changes nothing.
     pub fn call(&mut self, call: &Call) -> Result<Reply, Refusal> {
         let row = self.checked_row(call.kind, call.number)?;
         if row.held.is_outstanding() {
             return Err(Refusal::Outstanding);
         }
-        let reply = decide(&self.mount, call.kind, &row, &call.request)?;
-        if let Reply::Issued(command) = reply {
-            self.row_mut(call.kind, call.number).held = Held::Command(command);
-        }
+        let reply = decide(&self.mount, &self.account, call.kind, &row, &call.request)?;
+        self.store(call.kind, call.number, left_by(&call.request, &reply, call.kind, &row));
         Ok(reply)
     }
 
@@ -70,7 +75,8 @@ impl Volume {
     /// The checks that all calls share, before the one on the outstanding command.
     pub fn checked_row(&self, kind: FileKind, number: u32) -> Result<Row, Refusal> {
         let row = self.existing_row(kind, number)?;
-        if !is_possible(&row, kind, self.mount.block) {
+        let covered = self.account.covers(kind, &row, self.mount.explicit_open);
+        if !is_possible(&row, kind, self.mount.block) || !covered {
             return Err(Refusal::Impossible);
         }
         Ok(row)
@@ -96,7 +102,8 @@ impl Volume {
         let fits = |files: usize, rows: usize| files <= rows && files <= MAX_FILES;
         let counts_fit =
             fits(self.mount.cnv_files, self.cnv.len()) && fits(self.mount.seq_files, self.seq.len());
-        if block_is_known(self.mount.block) && counts_fit {
+        let account_fits = self.account.fits(self.mount.seq_files);
+        if block_is_known(self.mount.block) && counts_fit && account_fits {
             Ok(())
         } else {
             Err(Refusal::Impossible)
@@ -119,8 +126,8 @@ fn parse_name(name: &[u8]) -> Option<(FileKind, u32)> {
     Some((kind, number))
 }
 
-/// What number 10 asks of a row, whatever it holds.
-fn is_possible(row: &Row, kind: FileKind, block: u64) -> bool {
+/// What number 10 asks of a row, whatever it holds and whatever the account says.
+pub fn is_possible(row: &Row, kind: FileKind, block: u64) -> bool {
     let whole = |value: u64, unit: u64| value != 0 && value.is_multiple_of(unit);
     let placed = whole(row.start, block / SECTOR)
         && whole(row.capacity, block)
@@ -136,32 +143,87 @@ fn is_possible(row: &Row, kind: FileKind, block: u64) -> bool {
         Condition::ReadOnly => row.access != Access::Write,
         Condition::Offline => row.access == Access::None,
     };
-    placed && sized && accessible
+    let openable = !is_open(row) || row.access == Access::Write;
+    placed && sized && accessible && openable
 }
 
-/// What a call on a possible row with nothing outstanding is answered. It doesn't look at what the row holds.
-fn decide(mount: &Mount, kind: FileKind, row: &Row, request: &Request) -> Result<Reply, Refusal> {
-    let reads = matches!(request, Request::Read { .. });
-    if mount.read_only && !reads {
+/// A row with nothing outstanding as a call leaves it that got this reply. A sequential file counts its opens.
+fn left_by(request: &Request, reply: &Reply, kind: FileKind, row: &Row) -> Row {
+    let opens = match (kind, request) {
+        (FileKind::Sequential, Request::Open) => row.opens + 1,
+        (FileKind::Sequential, Request::Close) => row.opens - 1,
+        _ => row.opens,
+    };
+    let held = match *reply {
+        Reply::Done(_) => Held::Nothing,
+        Reply::Issued(command) => Held::Command(command),
+    };
+    Row { opens, held, ..*row }
+}
+
+/// What a call on a possible row with nothing outstanding is answered. It doesn't look at what the row holds. The limits
+/// come last, and with the option alone.
+fn decide(
+    mount: &Mount,
+    account: &Account,
+    kind: FileKind,
+    row: &Row,
+    request: &Request,
+) -> Result<Reply, Refusal> {
+    if mount.read_only && needed_access(kind, request) == Some(Access::Write) {
         return Err(Refusal::ReadOnlyMount);
     }
-    decide_unmarked(mount.block, kind, row, request)
+    let reply = decide_unmarked(&Terms::of(mount), kind, row, request)?;
+    if mount.explicit_open && *request == Request::Open {
+        account.check_limits(row, &left_by(request, &reply, kind, row))?;
+    }
+    Ok(reply)
 }
 
-/// The same on a mount without the read-only mark.
-pub fn decide_unmarked(block: u64, kind: FileKind, row: &Row, request: &Request) -> Result<Reply, Refusal> {
-    let needed = match request {
-        Request::Read { .. } => Access::Read,
-        Request::Write { .. } | Request::Truncate { .. } | Request::Flush => Access::Write,
-    };
-    if row.access < needed {
+/// What a call asks of the mount beside the mark.
+#[derive(Clone, Copy, Debug, PartialEq, Eq)]
+pub struct Terms {
+    pub block: u64,
+    pub explicit_open: bool,
+}
+
+impl Terms {
+    pub fn of(mount: &Mount) -> Terms {
+        Terms { block: mount.block, explicit_open: mount.explicit_open }
+    }
+}
+
+/// "A close skips 3 and 4", and a conventional file's open too; None for those. What needs write access needs a mount
+/// that isn't read-only.
+fn needed_access(kind: FileKind, request: &Request) -> Option<Access> {
+    match (request, kind) {
+        (Request::Close, _) | (Request::Open, FileKind::Conventional) => None,
+        (Request::Read { .. }, _) => Some(Access::Read),
+        (Request::Write { .. } | Request::Truncate { .. } | Request::Flush | Request::Open, _) => {
+            Some(Access::Write)
+        }
+    }
+}
+
+/// The same on a mount without the read-only mark and with an account without limits.
+pub fn decide_unmarked(
+    terms: &Terms,
+    kind: FileKind,
+    row: &Row,
+    request: &Request,
+) -> Result<Reply, Refusal> {
+    if needed_access(kind, request).is_some_and(|needed| row.access < needed) {
         return Err(Refusal::Access);
     }
     match *request {
         Request::Read { offset, length } => read(row, offset, length),
-        Request::Write { offset, length } => write(block, kind, row, offset, length),
+        Request::Write { offset, length } => write(terms, kind, row, offset, length),
         Request::Truncate { size } => truncate(kind, row, size),
         Request::Flush => Ok(issue(row, Operation::Flush, 0, 0)),
+        // "On cnv both are answered 0 after 2."
+        Request::Open | Request::Close if kind == FileKind::Conventional => Ok(Reply::Done(0)),
+        Request::Open => open(terms, row),
+        Request::Close => close(terms, row),
     }
 }
 
@@ -176,11 +238,14 @@ fn read(row: &Row, offset: u64, length: u64) -> Result<Reply, Refusal> {
     Ok(issue(row, Operation::Read, offset, count))
 }
 
-fn write(block: u64, kind: FileKind, row: &Row, offset: u64, length: u64) -> Result<Reply, Refusal> {
+fn write(terms: &Terms, kind: FileKind, row: &Row, offset: u64, length: u64) -> Result<Reply, Refusal> {
+    if terms.explicit_open && kind == FileKind::Sequential && !is_open(row) {
+        return Err(Refusal::NotOpen);
+    }
     if !sum_within(offset, length, row.capacity) {
         return Err(Refusal::BeyondCapacity);
     }
-    let aligned = offset.is_multiple_of(block) && length.is_multiple_of(block);
+    let aligned = offset.is_multiple_of(terms.block) && length.is_multiple_of(terms.block);
     if kind == FileKind::Sequential && !(aligned && offset == row.size) {
         return Err(Refusal::NotAppending);
     }
@@ -199,6 +264,29 @@ fn truncate(kind: FileKind, row: &Row, size: u64) -> Result<Reply, Refusal> {
     }
     let operation = if size == 0 { Operation::Reset } else { Operation::Finish };
     Ok(issue(row, operation, 0, 0))
+}
+
+/// "The first open of a file that isn't full commands a zone open", with the option; "others are answered 0".
+fn open(terms: &Terms, row: &Row) -> Result<Reply, Refusal> {
+    if row.opens >= MAX_OPENS {
+        return Err(Refusal::TooManyOpens);
+    }
+    if terms.explicit_open && !is_open(row) && row.size < row.capacity {
+        return Ok(issue(row, Operation::Open, 0, 0));
+    }
+    Ok(Reply::Done(0))
+}
+
+/// "The last close of one neither empty nor full a zone close", with the option.
+fn close(terms: &Terms, row: &Row) -> Result<Reply, Refusal> {
+    if !is_open(row) {
+        return Err(Refusal::NotOpen);
+    }
+    let begun = row.size != 0 && row.size < row.capacity;
+    if terms.explicit_open && row.opens == 1 && begun {
+        return Ok(issue(row, Operation::Close, 0, 0));
+    }
+    Ok(Reply::Done(0))
 }
 
 fn issue(row: &Row, operation: Operation, offset: u64, length: u64) -> Reply {

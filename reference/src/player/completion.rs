@@ -1,6 +1,6 @@
 //! Digesting a completion: success, or failure with the zone's record.
 
-use super::calls::{decide_unmarked, Reply, Request};
+use super::calls::{decide_unmarked, is_possible, Reply, Request, Terms};
 use super::tape::Named;
 use super::types::{
     sum_within, Access, Command, Condition, FileKind, Held, Operation, Policy, Reason, Refusal, Row, Volume,
@@ -16,9 +16,10 @@ impl Volume {
             Operation::Write if kind == FileKind::Sequential => row.size + command.length,
             Operation::Reset => 0,
             Operation::Finish => row.capacity,
-            Operation::Read | Operation::Write | Operation::Flush => row.size,
+            Operation::Read | Operation::Write => row.size,
+            Operation::Flush | Operation::Open | Operation::Close => row.size,
         };
-        *self.row_mut(kind, number) = Row { size, held: Held::Nothing, ..row };
+        self.store(kind, number, Row { size, held: Held::Nothing, ..row });
         Ok(command.length)
     }
 
@@ -44,10 +45,11 @@ impl Volume {
         if needs_recovery(command.operation, kind, &row, &zone) {
             let policy = self.mount.policy;
             after = recover(policy, kind, &after, &zone);
+            after.opens = opens_left(command.operation, &after);
             // What other files have outstanding stays so.
             self.mount.read_only |= policy == Policy::RemountReadOnly;
         }
-        *self.row_mut(kind, number) = after;
+        self.store(kind, number, after);
         Ok(after.size)
     }
 
@@ -70,7 +72,7 @@ impl Volume {
         }
         let row = self.checked_row(kind, number)?;
         let command = row.held.command().ok_or(Refusal::Impossible)?;
-        if !is_issuable(self.mount.block, kind, &row, &command) {
+        if !is_issuable(&Terms::of(&self.mount), kind, &row, &command) {
             return Err(Refusal::Impossible);
         }
         Ok((row, command))
@@ -79,8 +81,8 @@ impl Volume {
 
 /// Whether some call on the file would issue this command. Its own address and length name the only
 /// candidate: a read that is cut at the size commands the same as the shorter read. The mount's mark doesn't
-/// count, as another file's failure may have set it since.
-fn is_issuable(block: u64, kind: FileKind, row: &Row, command: &Command) -> bool {
+/// count, as another file's failure may have set it since, nor do account and limits.
+fn is_issuable(terms: &Terms, kind: FileKind, row: &Row, command: &Command) -> bool {
     let Some(offset) = command.address.checked_sub(row.start * SECTOR) else {
         return false;
     };
@@ -90,8 +92,21 @@ fn is_issuable(block: u64, kind: FileKind, row: &Row, command: &Command) -> bool
         Operation::Reset => Request::Truncate { size: 0 },
         Operation::Finish => Request::Truncate { size: row.capacity },
         Operation::Flush => Request::Flush,
+        Operation::Open => Request::Open,
+        Operation::Close => Request::Close,
     };
-    decide_unmarked(block, kind, row, &request) == Ok(Reply::Issued(*command))
+    let issues = |before: &Row| decide_unmarked(terms, kind, before, &request) == Ok(Reply::Issued(*command));
+    row_before(command.operation, row).is_some_and(|row| is_possible(&row, kind, terms.block) && issues(&row))
+}
+
+/// "10 takes a held open or close as its file stood before that call." None if it can't have stood so.
+fn row_before(operation: Operation, row: &Row) -> Option<Row> {
+    let opens = match operation {
+        Operation::Open => row.opens.checked_sub(1)?,
+        Operation::Close => row.opens.checked_add(1)?,
+        _ => row.opens,
+    };
+    Some(Row { opens, ..*row })
 }
 
 /// Why a good zone can't be what the file's command failed on.
@@ -156,4 +171,13 @@ fn recover(policy: Policy, kind: FileKind, row: &Row, zone: &Zone) -> Row {
         NewSize::Zero => 0,
     };
     Row { size, condition: zone.health(), access: row.access.min(most), ..*row }
+}
+
+/// A file is open until "a failed open or the loss of write access"; `after` is its row as recovered.
+fn opens_left(operation: Operation, after: &Row) -> u64 {
+    if operation == Operation::Open || after.access != Access::Write {
+        0
+    } else {
+        after.opens
+    }
 }

@@ -1,6 +1,7 @@
 //! The player: mounting, deciding calls, digesting completions, playing a tape of these, and formatting. It uses nothing
 //! else of this crate.
 
+pub mod account;
 pub mod calls;
 pub mod checksum;
 pub mod completion;

@@ -1,26 +1,30 @@
 //! Mounting: checks 20 to 30, with 33 between 25 and 26, and the rows that the zones give.
 
-use super::types::{block_is_known, Access, Condition, Held, Mount, Refusal, Row, SECTOR};
+use super::options::{self, Options};
+use super::types::{block_is_known, Access, Account, Condition, Held, Mount, Refusal, Row, SECTOR};
 use super::zone::Zone;
-use super::{options, superblock, zone};
+use super::{superblock, zone};
 
-/// The four inputs of a mount, as a tape carries them.
+/// The inputs of a mount, as a tape's first four records carry them.
 #[derive(Clone, Debug, PartialEq, Eq)]
 pub struct Input {
     pub block: u16,
     pub super_block: Vec<u8>,
     pub report: Vec<u8>,
     pub options: Vec<u8>,
+    /// How many files may be open, and active, by an open under `explicit-open`. 0 means none.
+    pub open_limit: u32,
+    pub active_limit: u32,
 }
 
 /// Fills the front of both tables. A refusal leaves them as they were, as it does the rows past the files.
-pub fn mount(input: &Input, cnv: &mut [Row], seq: &mut [Row]) -> Result<Mount, Refusal> {
+pub fn mount(input: &Input, cnv: &mut [Row], seq: &mut [Row]) -> Result<(Mount, Account), Refusal> {
     let block = u64::from(input.block);
     if !block_is_known(block) {
         return Err(Refusal::Block);
     }
     let super_block = superblock::decode(&input.super_block)?;
-    let policy = options::parse(&input.options)?;
+    let Options { policy, explicit_open } = options::parse(&input.options)?;
     let zones = zone::decode_report(&input.report)?;
     zone::check_zones(&zones, block)?;
     let cnv_rows = conventional_rows(&zones, super_block.aggregate);
@@ -30,7 +34,8 @@ pub fn mount(input: &Input, cnv: &mut [Row], seq: &mut [Row]) -> Result<Mount, R
     }
     cnv[..cnv_rows.len()].copy_from_slice(&cnv_rows);
     seq[..seq_rows.len()].copy_from_slice(&seq_rows);
-    Ok(Mount {
+    let account = Account::at_mount(&seq_rows, explicit_open, input.open_limit, input.active_limit);
+    let mount = Mount {
         block,
         cnv_files: cnv_rows.len(),
         seq_files: seq_rows.len(),
@@ -38,9 +43,11 @@ pub fn mount(input: &Input, cnv: &mut [Row], seq: &mut [Row]) -> Result<Mount, R
         group: super_block.group,
         mode: super_block.mode,
         policy,
+        explicit_open,
         read_only: false,
         uuid: super_block.uuid,
-    })
+    };
+    Ok((mount, account))
 }
 
 fn sequential_rows(zones: &[Zone]) -> Vec<Row> {
@@ -75,5 +82,5 @@ fn conventional_row(run: &[Zone]) -> Row {
 fn row_at_mount(start: u64, capacity: u64, size: u64, healthy: bool) -> Row {
     let (condition, access) =
         if healthy { (Condition::Healthy, Access::Write) } else { (Condition::Offline, Access::None) };
-    Row { start, capacity, size, condition, access, held: Held::Nothing }
+    Row { start, capacity, size, condition, access, opens: 0, held: Held::Nothing }
 }

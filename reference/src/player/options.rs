@@ -4,20 +4,27 @@ use super::types::{Policy, Refusal};
 
 pub const MAX_LENGTH: usize = 255;
 
-/// Pieces between commas; empty ones are skipped and the last one wins.
-pub fn parse(text: &[u8]) -> Result<Policy, Refusal> {
+#[derive(Clone, Copy, Debug, PartialEq, Eq)]
+pub struct Options {
+    pub policy: Policy,
+    pub explicit_open: bool,
+}
+
+/// Pieces between commas; empty ones are skipped and the last policy wins. `explicit-open` may stand anywhere, and again.
+pub fn parse(text: &[u8]) -> Result<Options, Refusal> {
     if text.len() > MAX_LENGTH {
         return Err(Refusal::Options);
     }
-    let mut policy = Policy::RemountReadOnly;
+    let mut options = Options { policy: Policy::RemountReadOnly, explicit_open: false };
     for piece in text.split(|&byte| byte == b',').filter(|piece| !piece.is_empty()) {
-        policy = match piece {
-            b"errors=remount-ro" => Policy::RemountReadOnly,
-            b"errors=zone-ro" => Policy::ZoneReadOnly,
-            b"errors=zone-offline" => Policy::ZoneOffline,
-            b"errors=repair" => Policy::Repair,
+        match piece {
+            b"errors=remount-ro" => options.policy = Policy::RemountReadOnly,
+            b"errors=zone-ro" => options.policy = Policy::ZoneReadOnly,
+            b"errors=zone-offline" => options.policy = Policy::ZoneOffline,
+            b"errors=repair" => options.policy = Policy::Repair,
+            b"explicit-open" => options.explicit_open = true,
             _ => return Err(Refusal::Options),
-        };
+        }
     }
-    Ok(policy)
+    Ok(options)
 }

@@ -48,12 +48,16 @@ pub fn read_input(reader: &mut Reader) -> Option<(usize, Input)> {
     let Next::Record(Record::SuperBlock(super_block)) = reader.read() else { return None };
     let Next::Record(Record::Report(report)) = reader.read() else { return None };
     let at = reader.at;
-    let Next::Record(Record::Options(options)) = reader.read() else { return None };
+    let Next::Record(Record::Mount { options, open_limit, active_limit }) = reader.read() else {
+        return None;
+    };
     let input = Input {
         block,
         super_block: super_block.to_vec(),
         report: report.to_vec(),
         options: options.to_vec(),
+        open_limit,
+        active_limit,
     };
     Some((at, input))
 }
@@ -62,8 +66,8 @@ pub fn read_input(reader: &mut Reader) -> Option<(usize, Input)> {
 pub fn mount_volume(input: &Input) -> Result<Volume, Refusal> {
     let mut cnv = vec![Row::EMPTY; MAX_FILES];
     let mut seq = vec![Row::EMPTY; MAX_FILES];
-    let mount = mount(input, &mut cnv, &mut seq)?;
-    Ok(Volume { mount, cnv, seq })
+    let (mount, account) = mount(input, &mut cnv, &mut seq)?;
+    Ok(Volume { mount, account, cnv, seq })
 }
 
 fn mount_line(input: &Input) -> (String, Option<Volume>) {
@@ -88,7 +92,7 @@ fn answer(volume: &mut Volume, record: &Record) -> Option<String> {
             let answer = volume.recorded_failure(file, zone).map(|size| (7, size));
             Some(completion_line("NO", file, answer))
         }
-        Record::Block(_) | Record::SuperBlock(_) | Record::Report(_) | Record::Options(_) => None,
+        Record::Block(_) | Record::SuperBlock(_) | Record::Report(_) | Record::Mount { .. } => None,
     }
 }
 
@@ -128,5 +132,7 @@ fn letter(operation: Operation) -> char {
         Operation::Reset => 'Z',
         Operation::Finish => 'F',
         Operation::Flush => 'S',
+        Operation::Open => 'O',
+        Operation::Close => 'C',
     }
 }

@@ -10,6 +10,8 @@ pub enum Verb {
     Write,
     Truncate,
     Flush,
+    Open,
+    Close,
 }
 
 impl Verb {
@@ -19,6 +21,8 @@ impl Verb {
             Verb::Write => "WR",
             Verb::Truncate => "TR",
             Verb::Flush => "FL",
+            Verb::Open => "OP",
+            Verb::Close => "CL",
         }
     }
 }
@@ -68,6 +72,8 @@ impl CallRecord {
             Request::Write { offset, length } => (Verb::Write, offset, length),
             Request::Truncate { size } => (Verb::Truncate, 0, size),
             Request::Flush => (Verb::Flush, 0, 0),
+            Request::Open => (Verb::Open, 0, 0),
+            Request::Close => (Verb::Close, 0, 0),
         };
         let Named { kind, number } = Named::of(call.kind, call.number);
         CallRecord { verb, kind, number, offset, length }
@@ -90,6 +96,8 @@ impl CallRecord {
             Verb::Write => Request::Write { offset, length },
             Verb::Truncate => Request::Truncate { size: length },
             Verb::Flush => Request::Flush,
+            Verb::Open => Request::Open,
+            Verb::Close => Request::Close,
         }
     }
 }
@@ -99,7 +107,12 @@ pub enum Record<'a> {
     Block(u16),
     SuperBlock(&'a [u8]),
     Report(&'a [u8]),
-    Options(&'a [u8]),
+    /// The options, and the two limits, which stand behind them with `explicit-open` or without.
+    Mount {
+        options: &'a [u8],
+        open_limit: u32,
+        active_limit: u32,
+    },
     Call(CallRecord),
     /// The command of this file was done.
     Good(Named),
@@ -154,13 +167,15 @@ fn decode(rest: &[u8]) -> Option<(Record<'_>, usize)> {
             (Record::Report(body.get(..length)?), length)
         }
         b"MO" => {
-            let length = usize::from(*body.first()?);
-            (Record::Options(body.get(1..1 + length)?), 1 + length)
+            let limits_at = 1 + usize::from(*body.first()?);
+            (decode_mount(body, limits_at)?, limits_at + LIMITS_LENGTH)
         }
         b"RD" => (decode_call(Verb::Read, body)?, CALL_LENGTH),
         b"WR" => (decode_call(Verb::Write, body)?, CALL_LENGTH),
         b"TR" => (decode_call(Verb::Truncate, body)?, CALL_LENGTH),
         b"FL" => (decode_call(Verb::Flush, body)?, CALL_LENGTH),
+        b"OP" => (decode_call(Verb::Open, body)?, CALL_LENGTH),
+        b"CL" => (decode_call(Verb::Close, body)?, CALL_LENGTH),
         b"OK" => (Record::Good(decode_named(body)?), NAMED_LENGTH),
         b"NO" => {
             let length = NAMED_LENGTH + zone::RECORD;
@@ -177,6 +192,15 @@ fn report_length(header: &[u8]) -> usize {
         count @ 1..=MAX_ZONES => zone::HEADER + zone::RECORD * count as usize,
         _ => zone::HEADER,
     }
+}
+
+/// "MO ends with the limits (u32, open first)."
+pub const LIMITS_LENGTH: usize = 8;
+
+fn decode_mount(body: &[u8], limits_at: usize) -> Option<Record<'_>> {
+    let limits = body.get(limits_at..limits_at + LIMITS_LENGTH)?;
+    let (open_limit, active_limit) = (u32_at(limits, 0), u32_at(limits, 4));
+    Some(Record::Mount { options: &body[1..limits_at], open_limit, active_limit })
 }
 
 /// A kind byte and a number.

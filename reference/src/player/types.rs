@@ -40,7 +40,7 @@ pub enum Policy {
     Repair,
 }
 
-/// One file: start in sectors, capacity and size in bytes, and the command that it has outstanding.
+/// One file: start in sectors, capacity and size in bytes, how many opens it has, and the command that it has outstanding.
 #[derive(Clone, Copy, Debug, PartialEq, Eq)]
 pub struct Row {
     pub start: u64,
@@ -48,6 +48,8 @@ pub struct Row {
     pub size: u64,
     pub condition: Condition,
     pub access: Access,
+    /// The file is open while this isn't 0. Only sequential files count.
+    pub opens: u64,
     pub held: Held,
 }
 
@@ -58,6 +60,7 @@ impl Row {
         size: 0,
         condition: Condition::Healthy,
         access: Access::None,
+        opens: 0,
         held: Held::Nothing,
     };
 
@@ -75,11 +78,20 @@ pub enum Operation {
     Reset,
     Finish,
     Flush,
+    Open,
+    Close,
 }
 
 impl Operation {
-    pub const ALL: [Operation; 5] =
-        [Operation::Read, Operation::Write, Operation::Reset, Operation::Finish, Operation::Flush];
+    pub const ALL: [Operation; 7] = [
+        Operation::Read,
+        Operation::Write,
+        Operation::Reset,
+        Operation::Finish,
+        Operation::Flush,
+        Operation::Open,
+        Operation::Close,
+    ];
 
     pub fn code(self) -> u64 {
         self as u64
@@ -168,14 +180,28 @@ pub struct Mount {
     pub group: u32,
     pub mode: u32,
     pub policy: Policy,
+    /// The option `explicit-open`: without it opens and closes only count.
+    pub explicit_open: bool,
     pub read_only: bool,
     pub uuid: [u8; 16],
 }
 
-/// A mount with the two lent tables, which may be longer than the files they hold.
+/// "The mount keeps one small running account of files open for writing and files active, corrected in place." Only
+/// sequential files count in it.
+#[derive(Clone, Copy, Debug, Default, PartialEq, Eq)]
+pub struct Account {
+    pub open: u32,
+    pub active: u32,
+    /// What an open may raise the two to, given at mount; 0 means none.
+    pub open_limit: u32,
+    pub active_limit: u32,
+}
+
+/// A mount with its account and the two lent tables, which may be longer than the files they hold.
 #[derive(Clone, Debug, PartialEq, Eq)]
 pub struct Volume {
     pub mount: Mount,
+    pub account: Account,
     pub cnv: Vec<Row>,
     pub seq: Vec<Row>,
 }
@@ -257,6 +283,10 @@ pub enum Refusal {
     NothingOutstanding,
     RecordMismatch(Reason),
     Impossible,
+    OpenLimit,
+    ActiveLimit,
+    NotOpen,
+    TooManyOpens,
     Block,
     SuperBlockLength,
     Magic,
@@ -284,6 +314,10 @@ impl Refusal {
             Refusal::NothingOutstanding => 8,
             Refusal::RecordMismatch(_) => 9,
             Refusal::Impossible => 10,
+            Refusal::OpenLimit => 11,
+            Refusal::ActiveLimit => 12,
+            Refusal::NotOpen => 13,
+            Refusal::TooManyOpens => 14,
             Refusal::Block => 20,
             Refusal::SuperBlockLength => 21,
             Refusal::Magic => 22,

@@ -12,6 +12,7 @@ pub const SEQUENTIAL_PREFERRED: u8 = 3;
 pub const NOT_WRITE_POINTER: u8 = 0;
 pub const EMPTY: u8 = 1;
 pub const IMPLICIT_OPEN: u8 = 2;
+pub const EXPLICIT_OPEN: u8 = 3;
 pub const CLOSED: u8 = 4;
 pub const READ_ONLY: u8 = 13;
 pub const FULL: u8 = 14;

@@ -9,7 +9,7 @@ use crate::player::types::{FileKind, Operation, Outstanding, Reason, Refusal, Vo
 use crate::player::zone::Zone;
 
 /// So many cases are counted.
-pub const CASES: usize = 15;
+pub const CASES: usize = 17;
 /// What they are, in the order of `Case`. A busy file is one with a command outstanding.
 pub const CASE_NAMES: [&str; CASES] = [
     "a call answered 0 while another file is busy",
@@ -27,6 +27,8 @@ pub const CASE_NAMES: [&str; CASES] = [
     "a good finish of a file whose mount became read-only meanwhile",
     "a good flush of a file whose mount became read-only meanwhile",
     "a completion answered 7 on a mount that is read-only",
+    "a good open of a file whose mount became read-only meanwhile",
+    "a good close of a file whose mount became read-only meanwhile",
 ];
 
 #[derive(Clone, Copy)]
@@ -46,6 +48,8 @@ enum Case {
     MarkedFinish,
     MarkedFlush,
     MarkedFailure,
+    MarkedOpen,
+    MarkedClose,
 }
 
 /// How often each case came on tapes.
@@ -65,7 +69,7 @@ impl Busy {
                 Record::Call(call) => watch.call(&call),
                 Record::Good(named) => watch.completion(&named, None),
                 Record::Failed(named, zone) => watch.completion(&named, Some(zone)),
-                Record::Block(_) | Record::SuperBlock(_) | Record::Report(_) | Record::Options(_) => break,
+                Record::Block(_) | Record::SuperBlock(_) | Record::Report(_) | Record::Mount { .. } => break,
             }
         }
         self.add(&watch.seen);
@@ -141,7 +145,7 @@ impl Watch {
         }
     }
 
-    /// A command done well that couldn't have been issued any more.
+    /// A command done well that couldn't have been issued any more, or a close, which could.
     fn count_marked(&mut self, done: &Outstanding) {
         let case = match (done.command.operation, done.kind) {
             // A read could have been.
@@ -151,6 +155,8 @@ impl Watch {
             (Operation::Reset, _) => Case::MarkedReset,
             (Operation::Finish, _) => Case::MarkedFinish,
             (Operation::Flush, _) => Case::MarkedFlush,
+            (Operation::Open, _) => Case::MarkedOpen,
+            (Operation::Close, _) => Case::MarkedClose,
         };
         self.seen.count(case, true);
     }

@@ -59,7 +59,7 @@ pub trait Counter {
                 // The answer is compared elsewhere.
                 Record::Good(named) => drop(volume.recorded_success(&named)),
                 Record::Failed(named, bytes) => self.count_failure(&mut volume, &named, bytes),
-                Record::Block(_) | Record::SuperBlock(_) | Record::Report(_) | Record::Options(_) => return,
+                Record::Block(_) | Record::SuperBlock(_) | Record::Report(_) | Record::Mount { .. } => return,
             }
         }
     }

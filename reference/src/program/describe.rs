@@ -38,13 +38,15 @@ fn record_text(record: &Record) -> String {
         Record::Block(block) => format!("BK {block}"),
         Record::SuperBlock(bytes) => super_block_text(bytes),
         Record::Report(bytes) => report_text(bytes),
-        Record::Options(text) => format!("MO \"{}\"", text.escape_ascii()),
+        Record::Mount { options, open_limit, active_limit } => {
+            format!("MO \"{}\" limits open {open_limit} active {active_limit}", options.escape_ascii())
+        }
         Record::Call(call) => {
             let file = format!("{} {}", call.verb.mark(), file_text(&call.named()));
             match call.verb {
                 Verb::Read | Verb::Write => format!("{file} offset {} length {}", call.offset, call.length),
                 Verb::Truncate => format!("{file} size {}", call.length),
-                Verb::Flush => file,
+                Verb::Flush | Verb::Open | Verb::Close => file,
             }
         }
         Record::Good(file) => format!("OK {}", file_text(file)),

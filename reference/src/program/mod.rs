@@ -6,6 +6,7 @@ pub mod compare;
 pub mod counter;
 pub mod describe;
 pub mod formats;
+pub mod openings;
 pub mod perms;
 pub mod pointers;
 pub mod reasons;

@@ -1,24 +1,27 @@
-//! What a comparison has reached: answers by mark, perms, pointers, reasons, busy files, and the consistency check's own
-//! numbers.
+//! What a comparison has reached: answers by mark, perms, pointers, reasons, busy files, openings, and the consistency
+//! check's own numbers.
 
 use std::collections::BTreeMap;
 
 use super::busy::{self, Busy};
 use super::counter::Counter;
+use super::openings::{self, Openings};
 use super::perms::{self, Perms};
 use super::pointers::{self, Pointers};
 use super::reasons::{Reasons, OF_RECORDS, OF_ZONES, RECORD_PAIRS, ZONE_PAIRS};
 use crate::disk::consistency::Compared;
 use crate::disk::truth::FREEDOM_NAMES;
 
-/// Every answer that a tape can show. It can't show 10 and 30 (its tables and mount are always possible
+/// Every answer that a tape can show. It can't show 10 and 30 (its tables, mount and account are always possible
 /// and long enough), nor 21 (its super block always has its length).
-const EXPECTED: [(&str, &[&str]); 8] = [
+const EXPECTED: [(&str, &[&str]); 10] = [
     ("MO", &["0", "20", "22", "23", "24", "25", "26", "27", "28", "29", "33"]),
     ("RD", &["R", "D", "1", "2", "4", "5"]),
-    ("WR", &["W", "D", "1", "2", "3", "4", "5", "6"]),
+    ("WR", &["W", "D", "1", "2", "3", "4", "5", "6", "13"]),
     ("TR", &["Z", "F", "D", "1", "2", "3", "4"]),
     ("FL", &["S", "1", "2", "3", "4"]),
+    ("OP", &["O", "D", "1", "2", "3", "4", "11", "12", "14"]),
+    ("CL", &["C", "D", "1", "2", "13"]),
     ("OK", &["0", "1", "8"]),
     ("NO", &["1", "7", "8", "9"]),
     ("??", &["40"]),
@@ -39,6 +42,8 @@ pub struct Tally {
     pub reasons: Reasons,
     /// Files with commands outstanding at the same time, by what came of that.
     pub busy: Busy,
+    /// Opens and closes, by what came of them.
+    pub openings: Openings,
     /// What the consistency check saw while the tapes were made.
     pub compared: Compared,
 }
@@ -63,6 +68,7 @@ impl Tally {
         self.pointers.count_tape(tape);
         self.reasons.count_tape(tape);
         self.busy.count_tape(tape);
+        self.openings.count_tape(tape);
     }
 
     pub fn add(&mut self, other: &Tally) {
@@ -74,6 +80,7 @@ impl Tally {
         self.pointers.add(&other.pointers);
         self.reasons.add(&other.reasons);
         self.busy.add(&other.busy);
+        self.openings.add(&other.openings);
         for (key, count) in &other.answers {
             *self.answers.entry(key.clone()).or_default() += count;
         }
@@ -92,7 +99,9 @@ impl Tally {
         let perms = perms::CASE_NAMES.iter().zip(self.perms.counts);
         let pointers = pointers::CASE_NAMES.iter().zip(self.pointers.counts);
         let busy = busy::CASE_NAMES.iter().zip(self.busy.counts);
-        for (name, _) in perms.chain(pointers).chain(busy).filter(|(_, count)| *count == 0) {
+        let openings = openings::CASE_NAMES.iter().zip(self.openings.counts);
+        let cases = perms.chain(pointers).chain(busy).chain(openings);
+        for (name, _) in cases.filter(|(_, count)| *count == 0) {
             missing.push(name.to_string());
         }
         missing.extend(self.reasons.missing());
@@ -106,6 +115,9 @@ impl Tally {
         }
         if self.compared.rows_beside == 0 {
             missing.push("a row compared while another file is busy".to_string());
+        }
+        if self.compared.accounts == self.compared.states {
+            missing.push("an account compared in a run with any completions".to_string());
         }
         if self.compared.impossible == 0 {
             missing.push("a completion answered 10".to_string());
@@ -148,7 +160,7 @@ impl Tally {
 
     /// One line on a single tape.
     pub fn tape_summary(&self, bytes: usize) -> String {
-        let calls: u64 = ["RD", "WR", "TR", "FL"].iter().map(|mark| self.count(mark, None)).sum();
+        let calls: u64 = ["RD", "WR", "TR", "FL", "OP", "CL"].iter().map(|mark| self.count(mark, None)).sum();
         let (good, failed) = (self.count("OK", None), self.count("NO", None));
         let answers = self.answers_text();
         format!("{calls} calls, {good} completions good and {failed} failed, {bytes} bytes ({answers})")
@@ -157,15 +169,24 @@ impl Tally {
     /// One line on a comparison.
     pub fn summary(&self) -> String {
         let answers = self.answers_text();
-        let Compared { states, rows, rows_beside, exceptions, failures, records, reports, impossible } =
-            self.compared;
+        let Compared {
+            states,
+            rows,
+            rows_beside,
+            exceptions,
+            failures,
+            records,
+            reports,
+            impossible,
+            accounts,
+        } = self.compared;
         let (exceptions, records, reports) =
             (counts_text(&exceptions), counts_text(&records), counts_text(&reports));
         let (perms, pointers) = (counts_text(&self.perms.counts), counts_text(&self.pointers.counts));
-        let busy = counts_text(&self.busy.counts);
+        let (busy, openings) = (counts_text(&self.busy.counts), counts_text(&self.openings.counts));
         let reasons = self.reasons_text();
         format!(
-            "{} tapes, {} lines alike ({answers}), nonzero exits {}; fresh mounts {states}, rows {rows}, those beside a busy file {rows_beside}, exceptions {exceptions}, failures {failures}, other bytes in records {records} and in reports {reports}, copies answered 10 {impossible}, perms {perms}, pointers {pointers}, busy files {busy}, {reasons}",
+            "{} tapes, {} lines alike ({answers}), nonzero exits {}; fresh mounts {states}, rows {rows}, those beside a busy file {rows_beside}, exceptions {exceptions}, failures {failures}, other bytes in records {records} and in reports {reports}, copies answered 10 {impossible}, accounts {accounts}, perms {perms}, pointers {pointers}, busy files {busy}, openings {openings}, {reasons}",
             self.tapes, self.lines, self.exits
         )
     }

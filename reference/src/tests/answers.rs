@@ -1,12 +1,13 @@
 //! Which answers a run may have, on answers that are made up here.
 
 use super::*;
-use crate::disk::answers::{call_fault, call_moved, completion_fault, Found};
+use crate::disk::answers::{call_fault, call_moved, completion_fault, limit_fault, Found};
 use crate::player::calls::Reply::{Done, Issued};
+use crate::player::tape::{CallRecord, Verb};
 use crate::player::types::{Command, Held, Operation, Reason};
 
 /// The refusal with each number that a call or a completion can have.
-const REFUSALS: [Refusal; 9] = [
+const REFUSALS: [Refusal; 13] = [
     Refusal::NoSuchFile,
     Refusal::Outstanding,
     Refusal::ReadOnlyMount,
@@ -16,39 +17,67 @@ const REFUSALS: [Refusal; 9] = [
     Refusal::NothingOutstanding,
     Refusal::RecordMismatch(Reason::OtherZone),
     Refusal::Impossible,
+    Refusal::OpenLimit,
+    Refusal::ActiveLimit,
+    Refusal::NotOpen,
+    Refusal::TooManyOpens,
 ];
 
+/// What each call can be refused with on a file that is there and isn't busy.
 #[test]
 fn calls_on_an_idle_file() {
-    assert_eq!(call_fault(Found::Idle, &Ok(Done(0))), None);
-    for refusal in REFUSALS {
-        let number = refusal.number();
-        let fault = call_fault(Found::Idle, &Err(refusal));
-        if (3..=6).contains(&number) {
-            assert_eq!(fault, None);
-        } else {
-            assert_eq!(fault, Some(format!("a call on an idle file is answered {number}")));
+    let verbs: [(Verb, &[u32]); 6] = [
+        (Verb::Read, &[4, 5]),
+        (Verb::Write, &[3, 4, 5, 6, 13]),
+        (Verb::Truncate, &[3, 4]),
+        (Verb::Flush, &[3, 4]),
+        (Verb::Open, &[3, 4, 11, 12, 14]),
+        (Verb::Close, &[13]),
+    ];
+    for (verb, numbers) in verbs {
+        assert_eq!(call_fault(Found::Idle, verb, &Ok(Done(0))), None);
+        for refusal in REFUSALS {
+            let number = refusal.number();
+            let fault = call_fault(Found::Idle, verb, &Err(refusal));
+            if numbers.contains(&number) {
+                assert_eq!(fault, None);
+            } else {
+                assert_eq!(fault, Some(format!("a call on an idle file is answered {number}")));
+            }
         }
     }
+}
+
+/// Limits may be in the way of a call that would be answered, and nothing else comes of them.
+#[test]
+fn limits_are_in_the_way_of_good_opens_alone() {
+    let answers = REFUSALS.into_iter().map(Err).chain([Ok(Done(0)), Ok(FLUSH)]);
+    for answer in answers {
+        let limited = [11, 12].contains(&number(answer));
+        assert_eq!(limit_fault(&answer, &answer).is_some(), limited, "{answer:?}");
+        assert_eq!(limit_fault(&answer, &Ok(Done(1))).is_none(), limited, "{answer:?}");
+    }
+    let fault = "a call is answered 0, and 3 without limits".to_string();
+    assert_eq!(limit_fault(&Ok(Done(0)), &Err(Refusal::ReadOnlyMount)), Some(fault));
 }
 
 /// 2, and nothing else: it comes before all that looks at the arguments.
 #[test]
 fn calls_on_a_busy_file() {
-    assert_eq!(call_fault(Found::Busy, &Err(Refusal::Outstanding)), None);
+    assert_eq!(call_fault(Found::Busy, Verb::Flush, &Err(Refusal::Outstanding)), None);
     let others = REFUSALS.into_iter().filter(|&refusal| refusal != Refusal::Outstanding).map(Err);
     for answer in others.chain([Ok(Done(0)), Ok(FLUSH)]) {
         let number = number(answer);
         let expected = format!("a call on a busy file is answered {number}");
-        assert_eq!(call_fault(Found::Busy, &answer), Some(expected));
+        assert_eq!(call_fault(Found::Busy, Verb::Flush, &answer), Some(expected));
     }
 }
 
 #[test]
 fn calls_on_a_file_that_is_not_there() {
-    assert_eq!(call_fault(Found::NoFile, &Err(Refusal::NoSuchFile)), None);
+    assert_eq!(call_fault(Found::NoFile, Verb::Flush, &Err(Refusal::NoSuchFile)), None);
     for answer in [Ok(Done(0)), Err(Refusal::Outstanding), Err(Refusal::Impossible)] {
-        let fault = call_fault(Found::NoFile, &answer).unwrap();
+        let fault = call_fault(Found::NoFile, Verb::Flush, &answer).unwrap();
         let number = number(answer);
         assert_eq!(fault, format!("a call on a file that isn't there is answered {number}"));
     }
@@ -57,14 +86,22 @@ fn calls_on_a_file_that_is_not_there() {
 /// The command of a flush of seq/0.
 const FLUSH: Reply = Issued(Command { operation: Operation::Flush, address: 805306368, length: 0 });
 
+fn flushing(number: u32) -> CallRecord {
+    CallRecord::of(&flush(SEQ, number))
+}
+
 /// Ways in which a volume may differ from the sheet with nothing outstanding.
-const CHANGES: [fn(&mut Volume); 6] = [
+const CHANGES: [fn(&mut Volume); 10] = [
     |volume| volume.mount.read_only = true,
     |volume| volume.seq[0].size = 0,
     |volume| volume.cnv[1].start += 8,
     |volume| volume.seq[1021].start = 1,
     |volume| volume.seq[1].held = Held::of_words([5, 1073741824, 0]),
     |volume| volume.cnv[0].held = Held::of_words([9, 0, 0]),
+    |volume| volume.seq[0].opens = 1,
+    |volume| volume.account.open = 1,
+    |volume| volume.account.active = 0,
+    |volume| volume.account.active_limit = 7,
 ];
 
 #[test]
@@ -72,24 +109,51 @@ fn only_an_issued_command_moves_something() {
     let idle = sheet();
     let mut busy = sheet();
     busy.call(&flush(SEQ, 0)).unwrap();
-    assert_eq!(call_moved(&seq(0), &Ok(FLUSH), &idle, &busy), None);
+    assert_eq!(call_moved(&flushing(0), &Ok(FLUSH), &idle, &busy), None);
     let beside = Some("a call moved something beside the command in its row".to_string());
-    assert_eq!(call_moved(&seq(0), &Ok(FLUSH), &idle, &idle), beside);
-    assert_eq!(call_moved(&seq(1), &Ok(FLUSH), &idle, &busy), beside);
+    assert_eq!(call_moved(&flushing(0), &Ok(FLUSH), &idle, &idle), beside);
+    assert_eq!(call_moved(&flushing(1), &Ok(FLUSH), &idle, &busy), beside);
     let at_once = Some("a call that was answered at once moved something".to_string());
-    assert_eq!(call_moved(&seq(0), &Ok(Done(0)), &idle, &idle), None);
-    assert_eq!(call_moved(&seq(0), &Ok(Done(0)), &idle, &busy), at_once);
+    assert_eq!(call_moved(&flushing(0), &Ok(Done(0)), &idle, &idle), None);
+    assert_eq!(call_moved(&flushing(0), &Ok(Done(0)), &idle, &busy), at_once);
     for change in CHANGES {
         let (mut after_busy, mut after_idle) = (busy.clone(), idle.clone());
         change(&mut after_busy);
         change(&mut after_idle);
-        assert_eq!(call_moved(&seq(0), &Ok(FLUSH), &idle, &after_busy), beside);
-        assert_eq!(call_moved(&seq(0), &Ok(Done(0)), &idle, &after_idle), at_once);
+        assert_eq!(call_moved(&flushing(0), &Ok(FLUSH), &idle, &after_busy), beside);
+        assert_eq!(call_moved(&flushing(0), &Ok(Done(0)), &idle, &after_idle), at_once);
         for refusal in REFUSALS {
             let refused = format!("a refused call (answered {}) moved something", refusal.number());
-            assert_eq!(call_moved(&seq(0), &Err(refusal), &idle, &idle), None);
-            assert_eq!(call_moved(&seq(0), &Err(refusal), &idle, &after_idle), Some(refused));
+            assert_eq!(call_moved(&flushing(0), &Err(refusal), &idle, &idle), None);
+            assert_eq!(call_moved(&flushing(0), &Err(refusal), &idle, &after_idle), Some(refused));
         }
+    }
+}
+
+/// Beside the command, if there is one, the opens of the file's row and what follows from them in the account.
+#[test]
+fn an_open_and_a_close_move_the_opens() {
+    let idle = sheet_under("explicit-open");
+    let steps = [open(SEQ, 1), open(SEQ, 0), close(SEQ, 1), open(CNV, 0), close(CNV, 1)];
+    let mut before = idle;
+    for call in steps {
+        let mut after = before.clone();
+        let answer = after.call(&call);
+        assert!(answer.is_ok());
+        let record = CallRecord::of(&call);
+        assert_eq!(call_moved(&record, &answer, &before, &after), None, "{call:?}");
+        for change in CHANGES {
+            let mut changed = after.clone();
+            change(&mut changed);
+            if changed != after {
+                assert!(call_moved(&record, &answer, &before, &changed).is_some(), "{call:?}");
+            }
+        }
+        // Without the open or close nothing else may have moved it.
+        if call.kind == SEQ {
+            assert!(call_moved(&flushing(call.number), &answer, &before, &after).is_some(), "{call:?}");
+        }
+        before = Volume { seq: after.seq.iter().map(|row| row.idle()).collect(), ..after };
     }
 }
 

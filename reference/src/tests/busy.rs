@@ -24,8 +24,8 @@ fn fourth() -> Zone {
     zone(2097152, 524288, 2097152, 2, 1, 393216)
 }
 
-fn counted(records: &[On]) -> Busy {
-    let mut tape = head(&input_with(0, "errors=remount-ro", &sheet_zones()));
+fn counted(options: &str, records: &[On]) -> Busy {
+    let mut tape = head(&input_with(0, options, &sheet_zones()));
     for on in records {
         match on {
             Ask(call) => encode(&Record::Call(CallRecord::of(call)), &mut tape),
@@ -40,7 +40,7 @@ fn counted(records: &[On]) -> Busy {
 
 /// The numbers of the cases, from 1, and how often each came; those that didn't come aren't there.
 fn cases(records: &[On]) -> Vec<(usize, u64)> {
-    (1..).zip(counted(records).counts).filter(|(_, count)| *count > 0).collect()
+    (1..).zip(counted("errors=remount-ro", records).counts).filter(|(_, count)| *count > 0).collect()
 }
 
 #[test]
@@ -117,6 +117,21 @@ fn completions_after_a_remount() {
     assert_eq!(cases(&reads), [(1, 1), (4, 1), (9, 1)]);
 }
 
+/// Cases 16 and 17: opens and closes that are done well after the remount, of which a close could still be commanded.
+#[test]
+fn opens_and_closes_after_a_remount() {
+    let marks = || [Ask(flush(SEQ, 1)), Failed(seq(1), fourth())];
+    let opened = || [Ask(open(SEQ, 0)), Good(seq(0))];
+    let cases = |records: Vec<On>| counted("explicit-open", &records).counts[8..].to_vec();
+    let after_open: Vec<On> = [Ask(open(SEQ, 0))].into_iter().chain(marks()).chain([Good(seq(0))]).collect();
+    assert_eq!(cases(after_open), [1, 0, 0, 0, 0, 0, 0, 1, 0]);
+    let close = || [Ask(close(SEQ, 0))];
+    let after_close = opened().into_iter().chain(close()).chain(marks()).chain([Good(seq(0))]).collect();
+    assert_eq!(cases(after_close), [1, 0, 0, 0, 0, 0, 0, 0, 1]);
+    let closed_later = opened().into_iter().chain(marks()).chain(close()).chain([Good(seq(0))]).collect();
+    assert_eq!(cases(closed_later), [0; 9]);
+}
+
 #[test]
 fn tapes_without_a_mount_have_none() {
     let tape = head(&sheet_input());
@@ -140,7 +155,7 @@ fn missing_cases_are_named() {
     for answer in ["OK 1", "NO 1", "a row compared while another file is busy"] {
         assert!(tally.missing().contains(&answer.to_string()), "{answer}");
     }
-    tally.busy.counts = [1, 2, 3, 4, 5, 6, 7, 8, 0, 10, 11, 12, 13, 14, 15];
+    tally.busy.counts = [1, 2, 3, 4, 5, 6, 7, 8, 0, 10, 11, 12, 13, 14, 15, 16, 17];
     let mut expected = [false; CASES];
     expected[8] = true;
     assert_eq!(named(&tally), expected);
@@ -153,6 +168,6 @@ fn missing_cases_are_named() {
     let mut sum = tally.clone();
     sum.add(&tally);
     let text = sum.summary();
-    assert!(text.contains(", busy files 2/4/6/8/10/12/14/16/0/20/22/24/26/28/30, reasons "), "{text}");
+    assert!(text.contains(", busy files 2/4/6/8/10/12/14/16/0/20/22/24/26/28/30/32/34, openings "), "{text}");
     assert!(text.contains(", those beside a busy file 8, "), "{text}");
 }

@@ -68,7 +68,7 @@ fn spoilt(has: &impl Fn(&str) -> bool, way: usize) -> Volume {
     let mut volume = three_busy("errors=repair");
     if has("command") {
         volume.seq[0].held = [
-            Held::of_words([6, 805310464, 8192]),
+            Held::of_words([8, 805310464, 8192]),
             Held::of_words([2, 805310464, 8191]),
             Held::of_words([3, 805306368, 1]),
         ][way];
@@ -105,7 +105,7 @@ fn rows_past_the_files_are_not_there() {
 /// A word that is no command's is outstanding for 8, and impossible.
 #[test]
 fn words_that_are_no_command() {
-    for word in [6, 7, 255, 1 << 32, (1 << 32) + 2, u64::MAX] {
+    for word in [8, 9, 255, 1 << 32, (1 << 32) + 2, u64::MAX] {
         let mut volume = sheet();
         volume.seq[0].held = Held::of_words([word, 805310464, 8192]);
         assert_eq!((answer(&volume, &seq(0), None), answer(&volume, &seq(0), Some(&landed()))), (10, 10));
@@ -130,7 +130,8 @@ fn a_completion_concerns_its_own_file() {
     assert_eq!(volume.succeed(SEQ, 1), Ok(8192));
     let mut expected = before.clone();
     expected.seq[1] = Row { size: 8192, ..before.seq[1].idle() };
-    assert_eq!(volume, expected);
+    expected.account.active = 2;
+    assert!(volume == expected);
     assert_eq!(volume.fail(SEQ, 0, &landed(), true), Ok(8192));
     expected.seq[0] = Row { size: 8192, ..before.seq[0].idle() };
     assert_eq!(volume, expected);
@@ -175,6 +176,7 @@ fn commands_of_other_files_outlive_a_remount() {
     assert_eq!(volume.fail(SEQ, 1, &landed_in_second(), true), Ok(4096));
     let mut expected = before.clone();
     expected.mount.read_only = true;
+    expected.account.active = 2;
     expected.seq[1] = Row { size: 4096, ..before.seq[1].idle() };
     assert_eq!(volume, expected);
     assert_eq!(number(volume.call(&flush(SEQ, 1))), 3);

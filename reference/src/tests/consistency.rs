@@ -2,7 +2,7 @@
 
 use super::*;
 use crate::disk::consistency::Run;
-use crate::disk::model::{Choice, Mishap};
+use crate::disk::model::{Choice, Leaves, Mishap};
 use crate::disk::truth::Shown;
 use crate::generator::random::Random;
 use crate::generator::truthful;
@@ -12,10 +12,10 @@ use crate::player::types::{Access, Command, Condition, Held, Operation, Row};
 /// Makes something wrong of something right.
 type Change<T> = fn(&mut T);
 
-const WELL: Choice = Choice { fail: false, landed_blocks: 0, mishap: None };
+const WELL: Choice = Choice { fail: false, landed_blocks: 0, mishap: None, leaves: Leaves::AsThePointerSays };
 
 fn failing(landed_blocks: u64, mishap: Option<Mishap>) -> Choice {
-    Choice { fail: true, landed_blocks, mishap }
+    Choice { fail: true, landed_blocks, mishap, ..WELL }
 }
 
 fn begin(options: &str) -> Run {
@@ -393,10 +393,16 @@ fn kinds_that_no_file_has() {
 /// Calls that a player with a wrong table or count answers 10, or 1 though the file is there.
 #[test]
 fn answers_that_no_call_of_a_run_has() {
-    let wrong: [(Change<Volume>, &str); 5] = [
+    let wrong: [(Change<Volume>, &str); 8] = [
         (|volume| volume.seq[0].size += 1, "a call on an idle file is answered 10"),
         (|volume| volume.mount.block = 8192, "a call on an idle file is answered 10"),
-        (|volume| volume.mount.seq_files = 0, "a call on an idle file is answered 1"),
+        (|volume| volume.mount.seq_files = 0, "a call on an idle file is answered 10"),
+        (
+            |volume| (volume.mount.seq_files, volume.account.active) = (0, 0),
+            "a call on an idle file is answered 1",
+        ),
+        (|volume| volume.account.active = 3, "a call on an idle file is answered 10"),
+        (|volume| volume.account.active = 0, "a call on an idle file is answered 10"),
         (|volume| volume.cnv.clear(), "a call on an idle file is answered 10"),
         (|volume| volume.seq[0].held = FLUSH, "a call on an idle file is answered 2"),
     ];
@@ -553,7 +559,7 @@ fn idle_files_are_compared_beside_busy_ones() {
     issue_and_do(&mut run, &write(SEQ, 1, 0, 4096), &WELL);
     assert_eq!((run.compared.rows, run.compared.rows_beside), (4, 2));
     assert_eq!(run.volume.seq[1].size, 4096);
-    run.volume.seq[0].size = 0;
+    run.volume.seq[0].size = 8192;
     run.mishap(0, Mishap::BecomesReadOnly).unwrap();
     run.volume.seq[1].size = 0;
     let complaint = run.mishap(0, Mishap::BecomesOffline).unwrap_err();
@@ -615,4 +621,129 @@ fn a_failure_after_a_remount() {
         assert!(run.doing(SEQ, 0, &choice, own).unwrap().unwrap().is_some());
         assert_eq!(first(&run), expected);
     }
+}
+
+/// "On the disk open and close move no pointer .. and may leave condition 3 or 4", or that of the pointer. A write after that
+/// leaves the pointer's again.
+#[test]
+fn what_opens_and_closes_leave_on_the_disk() {
+    let leaves = [(Leaves::AsThePointerSays, 2, 1), (Leaves::ExplicitlyOpen, 3, 3), (Leaves::Closed, 4, 4)];
+    for (leaves, begun, empty) in leaves {
+        let mut run = begin("errors=repair,explicit-open");
+        let choice = Choice { leaves, ..WELL };
+        issue_and_do(&mut run, &open(SEQ, 0), &choice);
+        issue_and_do(&mut run, &open(SEQ, 1), &choice);
+        assert_eq!((run.disk.zones[3].pointer, run.disk.zones[3].condition), (1572872, begun));
+        assert_eq!((run.disk.zones[4].pointer, run.disk.zones[4].condition), (2097152, empty));
+        issue_and_do(&mut run, &write(SEQ, 0, 4096, 4096), &WELL);
+        assert_eq!((run.disk.zones[3].pointer, run.disk.zones[3].condition), (1572880, 2));
+        issue_and_do(&mut run, &close(SEQ, 0), &choice);
+        assert_eq!((run.disk.zones[3].pointer, run.disk.zones[3].condition), (1572880, begun));
+        issue_and_do(&mut run, &truncate(SEQ, 0, 0), &WELL);
+        assert_eq!((run.disk.zones[3].pointer, run.disk.zones[3].condition), (1572864, 1));
+        assert_eq!(run.volume.account.open, 1);
+        assert_eq!(run.compared.failures, 0);
+    }
+}
+
+/// A fall of no block is no mishap, so it leaves the condition as it is.
+#[test]
+fn a_fall_of_nothing_leaves_an_open_zone_open() {
+    let mut run = begin("errors=repair,explicit-open");
+    issue_and_do(&mut run, &open(SEQ, 1), &Choice { leaves: Leaves::ExplicitlyOpen, ..WELL });
+    assert!(!run.disk.suffer(4, Mishap::Fall { blocks: 3 }));
+    assert_eq!(run.disk.zones[4].condition, 3);
+}
+
+/// They "fail on an unhealthy zone", whatever the disk would choose, and may fail on any.
+#[test]
+fn opens_and_closes_that_fail() {
+    for mishap in [Mishap::BecomesReadOnly, Mishap::BecomesOffline] {
+        let mut run = begin("errors=repair,explicit-open");
+        issue_and_do(&mut run, &open(SEQ, 0), &WELL);
+        run.mishap(3, mishap).unwrap();
+        run.mishap(4, mishap).unwrap();
+        issue_and_do(&mut run, &close(SEQ, 0), &WELL);
+        issue_and_do(&mut run, &open(SEQ, 1), &WELL);
+        assert_eq!(run.compared.failures, 2);
+        assert_eq!((run.volume.account.open, run.volume.account.active), (0, 0));
+    }
+    let mut run = begin("errors=zone-ro,explicit-open");
+    issue_and_do(&mut run, &open(SEQ, 0), &failing(0, Some(Mishap::Fall { blocks: 1 })));
+    assert_eq!(first(&run), (0, Condition::Healthy, Access::Read));
+    issue_and_do(&mut run, &open(SEQ, 1), &failing(0, None));
+    assert_eq!(run.volume.seq[1].access, Access::Read);
+    assert_eq!(run.compared.exceptions, [0, 0, 4]);
+}
+
+/// "Done well" they "count as a good read", so they make no file quiet; a failed one does.
+#[test]
+fn good_opens_and_closes_make_nothing_quiet() {
+    let mut run = begin("errors=repair,explicit-open");
+    run.mishap(3, Mishap::Fall { blocks: 1 }).unwrap();
+    let rows = run.compared.rows;
+    issue_and_do(&mut run, &open(SEQ, 0), &WELL);
+    issue_and_do(&mut run, &close(SEQ, 0), &WELL);
+    // Four states, each with seq/1 alone.
+    assert_eq!((run.compared.rows, first(&run).0), (rows + 4, 4096));
+    issue_and_do(&mut run, &open(SEQ, 0), &failing(0, None));
+    // Two more, the second with both.
+    assert_eq!((run.compared.rows, first(&run).0), (rows + 7, 0));
+}
+
+/// A flush fails after a mishap, whatever opens were done since.
+#[test]
+fn a_flush_after_a_mishap_and_an_open() {
+    let mut run = begin("errors=repair,explicit-open");
+    run.mishap(3, Mishap::Fall { blocks: 1 }).unwrap();
+    issue_and_do(&mut run, &open(SEQ, 0), &WELL);
+    issue_and_do(&mut run, &flush(SEQ, 0), &WELL);
+    assert_eq!((run.compared.failures, first(&run).0, run.volume.seq[0].opens), (1, 0, 1));
+}
+
+/// The check notices an account that isn't true, and opens that don't follow from the answers.
+#[test]
+fn wrong_accounts_and_opens_are_noticed() {
+    let wrong: [(Change<Volume>, &str); 7] = [
+        (|volume| volume.account.open = 0, "consistency: the account is "),
+        (|volume| volume.account.open = 2, "consistency: the account is "),
+        (|volume| volume.account.active = 1, "consistency: the account is "),
+        (|volume| volume.seq[1].opens = 2, "consistency: seq/1 is "),
+        (|volume| volume.seq[0].opens = 1, "consistency: seq/0 is "),
+        (|volume| volume.cnv[0].opens = 1, "consistency: Conventional file 0 has 1 opens and not 0"),
+        (|volume| volume.seq[1].opens = 0, "consistency: seq/1 is "),
+    ];
+    for (change, expected) in wrong {
+        let mut run = begin("errors=repair,explicit-open");
+        issue_and_do(&mut run, &open(SEQ, 1), &WELL);
+        change(&mut run.volume);
+        let complaint = run.mishap(0, Mishap::BecomesOffline).unwrap_err();
+        assert!(complaint.starts_with(expected), "{complaint}");
+    }
+    // Of a busy file the row isn't compared, but its opens are.
+    let mut run = begin("errors=repair,explicit-open");
+    run.call(&open(SEQ, 1)).unwrap();
+    run.volume.seq[1].opens = 2;
+    let complaint = run.mishap(0, Mishap::BecomesOffline).unwrap_err();
+    assert!(complaint.starts_with("consistency: Sequential file 1 has 2 opens and not 1"), "{complaint}");
+}
+
+/// Opens and closes between other calls, with failures that end them: rows and account hold all the while.
+#[test]
+fn a_run_with_opens() {
+    let input = Input { open_limit: 1, ..input_with(0, "errors=remount-ro,explicit-open", &sheet_zones()) };
+    let mut run = Run::begin(&input).unwrap();
+    run.call(&write(SEQ, 1, 0, 4096)).unwrap();
+    issue_and_do(&mut run, &open(SEQ, 1), &WELL);
+    run.call(&open(SEQ, 0)).unwrap();
+    assert_eq!((run.volume.seq[0].opens, run.volume.account.open, run.volume.account.active), (0, 1, 2));
+    issue_and_do(&mut run, &write(SEQ, 1, 0, 8192), &WELL);
+    run.call(&close(SEQ, 1)).unwrap();
+    issue_and_do(&mut run, &open(SEQ, 0), &failing(0, None));
+    assert!(run.volume.mount.read_only && run.is_busy(SEQ, 1));
+    assert!(run.doing(SEQ, 1, &WELL, own).unwrap().is_some());
+    run.call(&open(SEQ, 1)).unwrap();
+    run.call(&close(SEQ, 1)).unwrap();
+    assert_eq!((run.volume.account.open, run.volume.account.active), (0, 2));
+    assert_eq!(run.compared.accounts, run.compared.states);
 }

@@ -6,12 +6,14 @@ use std::sync::OnceLock;
 use super::stamp;
 use crate::generator::random::Random;
 use crate::generator::{broken, generate, long, refused, shape, Generated, MAX_PAD};
-use crate::player::play::{play, Line};
+use crate::player::options::parse;
+use crate::player::play::{mount_volume, play, read_input, Line};
 use crate::player::tape::{Next, Reader, Record, Verb};
 use crate::player::types::{u32_at, FileKind, Reason, Refusal};
 use crate::player::zone::Zone;
 use crate::program::busy::Busy;
 use crate::program::counter::{Counter, Failure};
+use crate::program::openings::Openings;
 use crate::program::perms::Perms;
 use crate::program::pointers::CASE_NAMES;
 use crate::program::reasons::Reasons;
@@ -66,7 +68,7 @@ fn random_numbers_are_splitmix64() {
 #[test]
 fn the_check_holds_and_sees_much() {
     let mut tally = Tally::default();
-    for generated in &tapes()[..150] {
+    for generated in tapes() {
         tally.compared.add(generated.check.as_ref().unwrap());
         tally.count_tape(&generated.bytes);
         play(&generated.bytes).iter().for_each(|line| tally.count_line(&line.text));
@@ -176,8 +178,9 @@ fn the_tapes_have_every_case_of_busy_files() {
 fn a_long_run_has_busy_files() {
     let mut busy = Busy::default();
     busy.count_tape(&long(1, 4000, 0).unwrap());
-    assert!(busy.counts[..8].iter().all(|&count| count >= 10), "{:?}", busy.counts);
-    assert_eq!(busy.counts[8..], [0; 7]);
+    assert!(busy.counts[..7].iter().all(|&count| count >= 10), "{:?}", busy.counts);
+    assert!(busy.counts[7] > 0, "{:?}", busy.counts);
+    assert_eq!(busy.counts[8..], [0; 9]);
 }
 
 /// Every call is done in the end: a long run leaves nothing outstanding.
@@ -303,13 +306,13 @@ fn checked_runs_have_every_true_record() {
 /// Every call comes with kinds that no file has, and is answered 1 then.
 #[test]
 fn kinds_above_one_are_on_the_tapes() {
-    let mut counts = [0; 4];
+    let mut counts = [0; 6];
     for generated in &tapes()[..150] {
         for (record, text) in answered(&generated.bytes) {
             let Record::Call(call) = record else { continue };
             if call.kind > 1 {
                 assert_eq!(text, format!("{} 1", call.verb.mark()));
-                let verbs = [Verb::Read, Verb::Write, Verb::Truncate, Verb::Flush];
+                let verbs = [Verb::Read, Verb::Write, Verb::Truncate, Verb::Flush, Verb::Open, Verb::Close];
                 counts[verbs.iter().position(|&verb| verb == call.verb).unwrap()] += 1;
             }
         }
@@ -356,12 +359,12 @@ fn a_long_run_has_exactly_the_calls_asked_for() {
 #[test]
 fn padding_shifts_what_follows_the_mount() {
     let plain = long(2, 300, 0).unwrap();
-    let options_at = plain.windows(3).position(|bytes| bytes == b"MO\x0D").unwrap() + 3;
-    let (front, rest) = plain.split_at(options_at + 13);
+    let options_at = plain.windows(3).position(|bytes| bytes == b"MO\x1B").unwrap() + 3;
+    let (front, rest) = plain.split_at(options_at + 27);
     for pad in [1, 7, MAX_PAD] {
         let padded = long(2, 300, pad).unwrap();
         let mut expected = front.to_vec();
-        expected[options_at - 1] = 13 + pad as u8;
+        expected[options_at - 1] = 27 + pad as u8;
         expected.resize(front.len() + pad as usize, b',');
         expected.extend_from_slice(rest);
         assert!(padded == expected, "padding {pad}");
@@ -373,13 +376,18 @@ fn padding_shifts_what_follows_the_mount() {
 /// In every tenth of a long run files are read, written, reset, finished and flushed, fail and recover.
 #[test]
 fn a_long_run_stays_lively() {
-    const LIVELY: [(&str, &str); 8] = [
+    const LIVELY: [(&str, &str); 13] = [
         ("RD", "R"),
         ("WR", "W"),
         ("WR", "6"),
         ("TR", "Z"),
         ("TR", "F"),
         ("FL", "S"),
+        ("OP", "O"),
+        ("OP", "D"),
+        ("CL", "C"),
+        ("CL", "D"),
+        ("CL", "13"),
         ("OK", "0"),
         ("NO", "7"),
     ];
@@ -394,4 +402,126 @@ fn a_long_run_stays_lively() {
             }
         }
     }
+}
+
+/// Opens and closes come with all that can come of them, but for the 65,536th open, which one tape in a thousand has.
+#[test]
+fn the_tapes_have_every_case_of_openings() {
+    let mut openings = Openings::default();
+    tapes().iter().for_each(|generated| openings.count_tape(&generated.bytes));
+    let never = || (1..).zip(openings.counts).filter(|(_, count)| *count == 0).map(|(number, _)| number);
+    assert_eq!(never().collect::<Vec<u32>>(), [26]);
+}
+
+/// The one tape in a thousand, whichever seed: its file gets every open that it can have, and 14 from then on.
+#[test]
+fn one_tape_in_a_thousand_has_too_many_opens() {
+    for seed in 1..=3 {
+        let generated = generate(seed, 500);
+        assert!(generated.check.unwrap().accounts > 65_536);
+        assert!((1_500_000..1_600_000).contains(&generated.bytes.len()), "{}", generated.bytes.len());
+        let mut tally = Tally::default();
+        play(&generated.bytes).iter().for_each(|line| tally.count_line(&line.text));
+        assert!(tally.count("OP", Some("14")) >= 3, "{}", tally.summary());
+        assert!(tally.count("OP", Some("D")) + tally.count("OP", Some("O")) >= 65_536);
+        assert!(tally.count("OP", Some("2")) >= 1);
+    }
+    let longest = tapes().iter().map(|generated| generated.bytes.len()).max().unwrap();
+    assert!(longest < 200_000, "{longest}");
+}
+
+/// With the option and without, the limits are none, low, met by the mount or below what it gives, and high.
+#[test]
+fn good_mounts_have_limits_of_every_sort() {
+    let mut seen = BTreeSet::new();
+    for index in 0..600 {
+        let mut random = Random::new(4, index);
+        let shape = shape::shape(&mut random);
+        let volume = mount_volume(&shape::input(&mut random, &shape)).unwrap();
+        let (account, option) = (volume.account, volume.mount.explicit_open);
+        for (name, number, limit) in
+            [("open", account.open, account.open_limit), ("active", account.active, account.active_limit)]
+        {
+            let sort = match limit {
+                0 => "none",
+                _ if limit < number => "passed",
+                _ if limit == number => "met",
+                1 | 2 => "low",
+                u32::MAX => "highest",
+                _ => "other",
+            };
+            seen.insert((option, name, sort));
+        }
+    }
+    for option in [false, true] {
+        for sort in ["none", "low", "highest", "other"] {
+            assert!(
+                seen.contains(&(option, "open", sort)) && seen.contains(&(option, "active", sort)),
+                "{sort}"
+            );
+        }
+        assert!(seen.contains(&(option, "active", "met")) && seen.contains(&(option, "active", "passed")));
+    }
+}
+
+/// The piece stands first, last and between, once and again, also in texts of 255 bytes; cut, misspelt and doubled ones are
+/// refused.
+#[test]
+fn options_have_explicit_open_in_every_place() {
+    let (mut seen, mut bad) = (BTreeSet::new(), BTreeSet::new());
+    for index in 0..3000 {
+        let mut random = Random::new(5, index);
+        let text = String::from_utf8(shape::shape(&mut random).options).unwrap();
+        let pieces: Vec<&str> = text.split(',').filter(|piece| !piece.is_empty()).collect();
+        let place = |piece: Option<&&str>| piece == Some(&"explicit-open");
+        let count = pieces.iter().filter(|&&piece| piece == "explicit-open").count();
+        seen.insert((place(pieces.first()), place(pieces.last()), count.min(2)));
+        assert!(text.len() <= 255);
+        if text.len() == 255 && count > 0 {
+            seen.insert((true, true, 255));
+        }
+        let text = refused::bad_options(&mut Random::new(6, index));
+        assert_eq!(parse(&text), Err(Refusal::Options));
+        bad.insert(text);
+    }
+    let places = [(false, false, 0), (false, false, 1), (true, false, 1), (false, true, 1), (true, true, 1)];
+    let others = [(true, true, 2), (false, true, 2), (true, false, 2), (true, true, 255)];
+    assert!(places.iter().chain(&others).all(|place| seen.contains(place)), "{seen:?}");
+    for length in 1..13 {
+        assert!(bad.contains(&b"explicit-open"[..length]), "{length}");
+    }
+    for text in ["Explicit-open", "explicit-open ", "explicit-openx", "explicit-openexplicit-open"] {
+        assert!(bad.contains(text.as_bytes()), "{text}");
+    }
+}
+
+/// MO is cut at every place of its limits.
+#[test]
+fn tapes_end_in_cut_limits() {
+    let mut missing = BTreeSet::new();
+    for index in 0..1500 {
+        let tape = broken::tape(&mut Random::new(1, index));
+        let Some(Line { at, text }) = play(&tape).pop() else { continue };
+        let rest = &tape[at..];
+        if text == "?? 40" && rest.starts_with(b"MO") && rest.len() > 2 {
+            missing.insert((3 + usize::from(rest[2]) + 8).saturating_sub(rest.len()));
+        }
+    }
+    assert!((1..=8).all(|bytes| missing.contains(&bytes)), "{missing:?}");
+}
+
+/// A long run opens and closes files, with limits that nothing meets.
+#[test]
+fn a_long_run_opens_and_closes() {
+    let tape = long(1, 4000, 0).unwrap();
+    let (_, input) = read_input(&mut Reader::new(&tape)).unwrap();
+    assert_eq!((input.open_limit, input.active_limit), (1022, u32::MAX));
+    let mut tally = Tally::default();
+    play(&tape).iter().for_each(|line| tally.count_line(&line.text));
+    for (mark, answer) in
+        [("OP", "O"), ("OP", "D"), ("OP", "4"), ("CL", "C"), ("CL", "D"), ("CL", "13"), ("WR", "13")]
+    {
+        assert!(tally.count(mark, Some(answer)) >= 10, "{mark} {answer}");
+    }
+    assert_eq!(tally.count("OP", Some("11")) + tally.count("OP", Some("12")), 0);
 }

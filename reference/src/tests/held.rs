@@ -14,7 +14,7 @@ const ANYTHING_HELD: [[u64; 3]; 8] = [
     [3, 7, 9],
     [1, u64::MAX, u64::MAX],
     [6, 0, 0],
-    [7, 805306368, 4096],
+    [8, 805306368, 4096],
     [u64::MAX, u64::MAX, u64::MAX],
 ];
 
@@ -30,6 +30,8 @@ fn words_of_what_is_held() {
         (Operation::Reset, 2),
         (Operation::Finish, 3),
         (Operation::Flush, 4),
+        (Operation::Open, 5),
+        (Operation::Close, 6),
     ];
     for (operation, code) in codes {
         let held = Held::Command(command(operation, 17, 19));
@@ -37,7 +39,7 @@ fn words_of_what_is_held() {
         assert_eq!(Held::of_words([1 + code, 17, 19]), held);
         assert_eq!((held.is_outstanding(), held.command()), (true, Some(command(operation, 17, 19))));
     }
-    for word in [6, 7, 1 << 32, u64::MAX] {
+    for word in [8, 9, 1 << 32, u64::MAX] {
         let held = Held::of_words([word, 17, 19]);
         assert_eq!(held, Held::NoCommand { word, address: 17, length: 19 });
         assert_eq!((held.is_outstanding(), held.command(), held.words()), (true, None, [word, 17, 19]));

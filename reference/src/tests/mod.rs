@@ -1,5 +1,6 @@
 //! Tests with numbers from the papers, or worked out by hand; none asks this program for its expectation.
 
+mod accounts;
 mod answers;
 mod borders;
 mod busy;
@@ -11,6 +12,8 @@ mod format;
 mod generator;
 mod held;
 mod mount;
+mod opening;
+mod openings;
 mod perms;
 mod pointers;
 mod reasons;
@@ -116,6 +119,8 @@ pub fn input_with(features: u64, options: &str, zones: &[Zone]) -> Input {
         super_block: super_block(features),
         report: report(1, zones),
         options: options.as_bytes().to_vec(),
+        open_limit: 0,
+        active_limit: 0,
     }
 }
 
@@ -146,6 +151,14 @@ pub fn truncate(kind: FileKind, number: u32, size: u64) -> Call {
 
 pub fn flush(kind: FileKind, number: u32) -> Call {
     Call { kind, number, request: Request::Flush }
+}
+
+pub fn open(kind: FileKind, number: u32) -> Call {
+    Call { kind, number, request: Request::Open }
+}
+
+pub fn close(kind: FileKind, number: u32) -> Call {
+    Call { kind, number, request: Request::Close }
 }
 
 /// The refusal's number, or 0 for a call that is answered or issued.

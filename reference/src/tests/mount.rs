@@ -2,8 +2,8 @@
 
 use super::*;
 use crate::player::mount::mount;
-use crate::player::options::parse;
-use crate::player::types::{Access, Condition, Policy, Row};
+use crate::player::options::{parse, Options};
+use crate::player::types::{Access, Account, Condition, Policy, Row};
 
 fn refusal(input: &Input) -> u32 {
     mount_volume(input).map_or_else(Refusal::number, |_| 0)
@@ -331,7 +331,7 @@ fn options() {
         ("errors=zone-ro,errors=remount-ro,", Policy::RemountReadOnly),
     ];
     for (text, policy) in good {
-        assert_eq!(parse(text.as_bytes()), Ok(policy), "{text}");
+        assert_eq!(parse(text.as_bytes()), Ok(Options { policy, explicit_open: false }), "{text}");
     }
     for text in [
         "errors=",
@@ -345,6 +345,85 @@ fn options() {
     ] {
         assert_eq!(parse(text.as_bytes()), Err(Refusal::Options), "{text}");
     }
-    assert_eq!(parse(&[b','; 255]), Ok(Policy::RemountReadOnly));
+    let plain = Options { policy: Policy::RemountReadOnly, explicit_open: false };
+    assert_eq!(parse(&[b','; 255]), Ok(plain));
     assert_eq!(parse(&[b','; 256]), Err(Refusal::Options));
+}
+
+/// The piece stands anywhere, and again, and the last policy wins as before.
+#[test]
+fn explicit_open_among_the_options() {
+    let good: [(&str, Policy); 9] = [
+        ("explicit-open", Policy::RemountReadOnly),
+        (",explicit-open,,", Policy::RemountReadOnly),
+        ("explicit-open,explicit-open", Policy::RemountReadOnly),
+        ("explicit-open,errors=repair", Policy::Repair),
+        ("errors=repair,explicit-open", Policy::Repair),
+        ("errors=zone-ro,explicit-open,errors=zone-offline", Policy::ZoneOffline),
+        ("explicit-open,errors=zone-ro,explicit-open", Policy::ZoneReadOnly),
+        ("errors=repair,errors=remount-ro,explicit-open", Policy::RemountReadOnly),
+        ("explicit-open,explicit-open,errors=repair,errors=zone-ro", Policy::ZoneReadOnly),
+    ];
+    for (text, policy) in good {
+        assert_eq!(parse(text.as_bytes()), Ok(Options { policy, explicit_open: true }), "{text}");
+    }
+    let bad = [
+        "Explicit-open",
+        "EXPLICIT-OPEN",
+        "explicit-open ",
+        " explicit-open",
+        "explicit-open\0",
+        "explicit-openx",
+        "explicit-open=",
+        "explicit_open",
+        "explicitopen",
+        "xplicit-open",
+        "errors=explicit-open",
+        "explicit-open;errors=repair",
+        "explicit-openexplicit-open",
+        "explicit-open,x",
+        "explicit-open,errors=",
+        "explicit-open,explicit-ope",
+    ];
+    let cuts = (1..13).map(|length| &"explicit-open"[..length]);
+    for text in bad.into_iter().chain(cuts) {
+        assert_eq!(parse(text.as_bytes()), Err(Refusal::Options), "{text}");
+    }
+    let mut longest = vec![b','; 255];
+    longest[242..].copy_from_slice(b"explicit-open");
+    assert_eq!(parse(&longest), Ok(Options { policy: Policy::RemountReadOnly, explicit_open: true }));
+    longest.push(b',');
+    assert_eq!(parse(&longest), Err(Refusal::Options));
+}
+
+/// The option isn't lost, nor are the limits, which stand in the account with the option or without.
+#[test]
+fn a_mount_keeps_the_option_and_the_limits() {
+    for (options, explicit_open) in [("errors=repair", false), ("errors=repair,explicit-open", true)] {
+        for (open_limit, active_limit) in [(0, 0), (1, 2), (7, 0), (0, 7), (u32::MAX, u32::MAX - 1)] {
+            let input = Input { open_limit, active_limit, ..input_with(0, options, &sheet_zones()) };
+            let volume = mount_volume(&input).unwrap();
+            assert_eq!(volume.mount.explicit_open, explicit_open);
+            assert_eq!(volume.account, Account { open: 0, active: 1, open_limit, active_limit });
+            assert!(volume.cnv.iter().chain(&volume.seq).all(|row| row.opens == 0));
+        }
+    }
+}
+
+/// Begun files alone: neither empty nor full ones, nor those that can't be written; it may lie above the limit.
+#[test]
+fn a_mount_counts_the_active_files() {
+    let conditions = [(1, 0), (1, 8), (4, 16), (2, 24), (14, 0), (3, 8), (13, 8), (15, 8), (2, 16), (14, 8)];
+    let mut zones = vec![zone(0, 8, 0, 1, 0, 8), zone(8, 24, 0, 1, 0, 24)];
+    for (number, (condition, written)) in (0..).zip(conditions) {
+        let start = 32 + number * 24;
+        zones.push(zone(start, 24, start + written, 2, condition, 24));
+    }
+    for options in ["", "explicit-open"] {
+        for active_limit in [0, 1, 3, 4, 5] {
+            let input = Input { active_limit, ..input_with(0, options, &zones) };
+            let account = mount_volume(&input).unwrap().account;
+            assert_eq!((account.open, account.active, account.active_limit), (0, 4, active_limit));
+        }
+    }
 }

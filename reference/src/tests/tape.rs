@@ -29,8 +29,18 @@ const IDLE: (&[u8], &str) = (b"OK\x01\x01\x00\x00\x00", "OK 1 1 8");
 
 #[test]
 fn broken_after_the_mount() {
-    let tails: [&[u8]; 10] =
-        [b"O", b"ok", b"??", b"NO", b"NO123", b"BK\0\x10", b"MO\0", b"ZR", b"RD\x01", b"OK\x01"];
+    let tails: [&[u8]; 10] = [
+        b"O",
+        b"ok",
+        b"??",
+        b"NO",
+        b"NO123",
+        b"BK\0\x10",
+        b"MO\0\0\0\0\0\0\0\0\0",
+        b"ZR",
+        b"RD\x01",
+        b"OK\x01",
+    ];
     for tail in tails {
         let tape = [sheet_head().as_slice(), IDLE.0, tail].concat();
         assert_eq!(lines(&tape), ["MO 0 2 2", IDLE.1, "?? 40"], "{}", tail.escape_ascii());
@@ -183,4 +193,121 @@ fn differences_are_shown() {
         let place = if other.ends_with("\n\n") { "line 3 differs" } else { "line 2 differs" };
         assert!(shown.starts_with(place), "{shown}");
     }
+}
+
+/// MO's bytes: length byte, options, and two limits little-endian, open first, with the option or without.
+#[test]
+fn bytes_of_the_limits() {
+    for options in ["", "errors=repair", "explicit-open"] {
+        let input = Input {
+            open_limit: 0x04030201,
+            active_limit: 0x80000007,
+            ..input_with(0, options, &sheet_zones())
+        };
+        let tape = head(&input);
+        let mut expected = b"MO".to_vec();
+        expected.push(options.len() as u8);
+        expected.extend_from_slice(options.as_bytes());
+        expected.extend_from_slice(b"\x01\x02\x03\x04\x07\x00\x00\x80");
+        assert!(tape.ends_with(&expected), "{options}");
+        // As the tapes were before there were limits.
+        assert_eq!(lines(&tape[..tape.len() - 8]), ["?? 40"]);
+        assert_eq!(lines(&tape), ["MO 0 2 2"]);
+        let text: Vec<String> = describe(&tape).into_iter().map(|record| record.text).collect();
+        assert_eq!(text[3], format!("MO \"{options}\" limits open 67305985 active 2147483655"));
+    }
+}
+
+/// The limits are those of the tape, open first.
+#[test]
+fn limits_on_a_tape() {
+    let opens = [seq(0), seq(1)].map(|Named { number, .. }| Record::Call(CallRecord::of(&open(SEQ, number))));
+    let printed = |open_limit: u32, active_limit: u32| {
+        let input = Input {
+            open_limit,
+            active_limit,
+            ..input_with(0, "errors=repair,explicit-open", &sheet_zones())
+        };
+        let mut tape = head(&input);
+        opens.iter().for_each(|record| encode(record, &mut tape));
+        lines(&tape)[1..].to_vec()
+    };
+    let (first, second) = ("OP 0 O 805306368 0", "OP 0 O 1073741824 0");
+    assert_eq!(printed(0, 0), [first, second]);
+    assert_eq!(printed(1, 0), [first, "OP 11"]);
+    assert_eq!(printed(0, 1), [first, "OP 12"]);
+    assert_eq!(printed(1, 1), [first, "OP 11"]);
+    assert_eq!(printed(2, 2), [first, second]);
+}
+
+/// "OP and CL (letters O, C) look like FL": the fields that aren't used are noise.
+#[test]
+fn bytes_of_opens_and_closes() {
+    let record =
+        |mark: &str, kind: u8, number: u8| [mark.as_bytes(), &[kind, number, 0, 0, 0], &[0xA5; 16]].concat();
+    let good = |number: u8| [b"OK\x01".as_slice(), &[number, 0, 0, 0]].concat();
+    let mut tape = head(&input_with(0, "explicit-open", &sheet_zones()));
+    let records = [
+        record("CL", 1, 0),
+        record("OP", 1, 0),
+        record("OP", 1, 0),
+        good(0),
+        record("OP", 1, 0),
+        record("CL", 1, 0),
+        record("CL", 1, 0),
+        good(0),
+        record("CL", 1, 0),
+        record("OP", 1, 1),
+        good(1),
+        record("CL", 1, 1),
+        record("OP", 0, 1),
+        record("CL", 0, 1),
+        record("OP", 0, 2),
+        record("CL", 2, 0),
+        record("OP", 1, 7),
+    ];
+    records.iter().for_each(|record| tape.extend_from_slice(record));
+    let expected = [
+        "MO 0 2 2",
+        "CL 13",
+        "OP 0 O 805306368 0",
+        "OP 2",
+        "OK 1 0 0 0",
+        "OP 0 D 0",
+        "CL 0 D 0",
+        "CL 0 C 805306368 0",
+        "OK 1 0 0 0",
+        "CL 13",
+        "OP 0 O 1073741824 0",
+        "OK 1 1 0 0",
+        "CL 0 D 0",
+        "OP 0 D 0",
+        "CL 0 D 0",
+        "OP 1",
+        "CL 1",
+        "OP 1",
+    ];
+    assert_eq!(lines(&tape), expected);
+    let text: Vec<String> = describe(&tape).into_iter().map(|record| record.text).collect();
+    assert_eq!((text[4].as_str(), text[5].as_str(), text[16].as_str()), ("CL seq/0", "OP seq/0", "OP cnv/1"));
+    for mark in ["OP", "CL"] {
+        let record = record(mark, 1, 0);
+        assert_eq!(record.len(), 23);
+        for length in 1..23 {
+            let tape = [sheet_head().as_slice(), &record[..length]].concat();
+            assert_eq!(lines(&tape), ["MO 0 2 2", "?? 40"], "{length} bytes of {mark}");
+        }
+    }
+}
+
+/// A failed open, with the size that the record gives.
+#[test]
+fn a_failed_open_on_a_tape() {
+    let mut tape = head(&input_with(0, "errors=repair,explicit-open", &sheet_zones()));
+    let zone = record(&zone(1572864, 524288, 1572880, 2, 3, 393216));
+    encode(&Record::Call(CallRecord::of(&open(SEQ, 0))), &mut tape);
+    encode(&Record::Failed(seq(0), &zone), &mut tape);
+    encode(&Record::Call(CallRecord::of(&write(SEQ, 0, 8192, 4096))), &mut tape);
+    encode(&Record::Call(CallRecord::of(&close(SEQ, 0))), &mut tape);
+    assert_eq!(lines(&tape)[1..], ["OP 0 O 805306368 0", "NO 1 0 7 8192", "WR 13", "CL 13"]);
 }

@@ -1,7 +1,7 @@
 //! The reference's values as words, and words as the reference's values.
 
-use reference::player::types::{Access, Command, Condition, FileKind, Held, Mount, Policy, Row};
-use zonefs::words::{MOUNT_WORDS, ROW_WORDS};
+use reference::player::types::{Access, Account, Command, Condition, FileKind, Held, Mount, Policy, Row};
+use zonefs::words::{ACCOUNT_WORDS, MOUNT_WORDS, ROW_WORDS};
 
 pub const KINDS: [FileKind; 2] = [FileKind::Conventional, FileKind::Sequential];
 const CONDITIONS: [Condition; 3] = [Condition::Healthy, Condition::ReadOnly, Condition::Offline];
@@ -18,7 +18,7 @@ pub fn coded<T: Copy>(items: &[T], code: u64) -> Option<T> {
     items.get(usize::try_from(code).ok()?).copied()
 }
 
-/// What a row says of its file, without what it holds.
+/// What a row says of its file, without its opens and what it holds.
 pub fn file_words(row: &Row) -> [u64; 5] {
     [row.start, row.capacity, row.size, code(&CONDITIONS, &row.condition), code(&ACCESSES, &row.access)]
 }
@@ -26,7 +26,7 @@ pub fn file_words(row: &Row) -> [u64; 5] {
 pub fn row_words(row: &Row) -> [u64; ROW_WORDS] {
     let [start, capacity, size, condition, access] = file_words(row);
     let [held, address, length] = row.held.words();
-    [start, capacity, size, condition, access, held, address, length]
+    [start, capacity, size, condition, access, held, address, length, row.opens]
 }
 
 pub fn table_words(rows: &[Row]) -> Vec<u64> {
@@ -34,12 +34,18 @@ pub fn table_words(rows: &[Row]) -> Vec<u64> {
 }
 
 /// A row from its words. One whose codes are none is as impossible as one that starts at 0, and what it holds counts all the same.
-fn row_of(words: &[u64]) -> Row {
+pub fn row_of(words: &[u64]) -> Row {
     let held = Held::of_words([words[5], words[6], words[7]]);
     match (coded(&CONDITIONS, words[3]), coded(&ACCESSES, words[4])) {
-        (Some(condition), Some(access)) => {
-            Row { start: words[0], capacity: words[1], size: words[2], condition, access, held }
-        }
+        (Some(condition), Some(access)) => Row {
+            start: words[0],
+            capacity: words[1],
+            size: words[2],
+            condition,
+            access,
+            opens: words[8],
+            held,
+        },
         _ => Row { held, ..Row::EMPTY },
     }
 }
@@ -65,6 +71,7 @@ pub fn mount_words(mount: &Mount) -> Vec<u64> {
         half(0),
         half(8),
         u64::from(mount.read_only),
+        u64::from(mount.explicit_open),
     ]
 }
 
@@ -86,6 +93,18 @@ pub fn mount_of(words: &[u64]) -> Option<Mount> {
         mode: short(5)?,
         policy: coded(&POLICIES, words[6])?,
         read_only: coded(&[false, true], words[9])?,
+        explicit_open: coded(&[false, true], words[10])?,
         uuid,
     })
+}
+
+pub fn account_words(account: &Account) -> [u64; ACCOUNT_WORDS] {
+    let Account { open, active, open_limit, active_limit } = *account;
+    [open, active, open_limit, active_limit].map(u64::from)
+}
+
+/// The account of words; None where there are too few or one of them is above 32 bits.
+pub fn account_of(words: &[u64]) -> Option<Account> {
+    let short = |at: usize| u32::try_from(*words.get(at)?).ok();
+    Some(Account { open: short(0)?, active: short(1)?, open_limit: short(2)?, active_limit: short(3)? })
 }

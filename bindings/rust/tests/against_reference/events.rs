@@ -5,10 +5,11 @@ use reference::player::calls::{Call, Reply, Request};
 use reference::player::mount::Input;
 use reference::player::tape::Record;
 use reference::player::types::{FileKind, Refusal, Row, Volume};
-use zonefs::words::{self, ANSWER_WORDS, MOUNT_WORDS, ROW_WORDS};
+use zonefs::words::{self, ACCOUNT_WORDS, ANSWER_WORDS, MOUNT_WORDS, ROW_WORDS};
 
 use crate::convert::{
-    code, coded, command_values, file_words, mount_of, mount_words, row_words, rows_of, table_words, KINDS,
+    account_of, account_words, code, coded, command_values, file_words, mount_of, mount_words, row_words,
+    rows_of, table_words, KINDS,
 };
 use crate::typed;
 
@@ -16,6 +17,7 @@ use crate::typed;
 #[derive(Clone, Debug, PartialEq, Eq)]
 pub struct Lent {
     pub mount: Vec<u64>,
+    pub account: Vec<u64>,
     pub cnv: Vec<u64>,
     pub seq: Vec<u64>,
     pub answer: Vec<u64>,
@@ -27,15 +29,17 @@ impl Lent {
         let mut words = |count: usize| (0..count).map(|_| random.word()).collect::<Vec<u64>>();
         Lent {
             mount: words(MOUNT_WORDS),
+            account: words(ACCOUNT_WORDS),
             cnv: words(rows * ROW_WORDS),
             seq: words(rows * ROW_WORDS),
             answer: words(ANSWER_WORDS),
         }
     }
 
-    /// What the reference makes of the same words; None where they hold no mount value.
+    /// What the reference makes of the same words; None where they hold no mount value, or no account.
     pub fn volume(&self) -> Option<Volume> {
-        Some(Volume { mount: mount_of(&self.mount)?, cnv: rows_of(&self.cnv), seq: rows_of(&self.seq) })
+        let (mount, account) = (mount_of(&self.mount)?, account_of(&self.account)?);
+        Some(Volume { mount, account, cnv: rows_of(&self.cnv), seq: rows_of(&self.seq) })
     }
 }
 
@@ -49,25 +53,32 @@ pub enum Event {
     Show(u32, u32),
 }
 
+fn ask_call(lent: &mut Lent, kind: u32, number: u32, request: &Request) -> u64 {
+    let Lent { mount, account, cnv, seq, answer } = lent;
+    match *request {
+        Request::Read { offset, length } => {
+            words::read(mount, account, cnv, seq, kind, number, offset, length, answer)
+        }
+        Request::Write { offset, length } => {
+            words::write(mount, account, cnv, seq, kind, number, offset, length, answer)
+        }
+        Request::Truncate { size } => words::truncate(mount, account, cnv, seq, kind, number, size, answer),
+        Request::Flush => words::flush(mount, account, cnv, seq, kind, number, answer),
+        Request::Open => words::open(mount, account, cnv, seq, kind, number, answer),
+        Request::Close => words::close(mount, account, cnv, seq, kind, number, answer),
+    }
+}
+
 fn ask(lent: &mut Lent, event: &Event) -> u64 {
-    let Lent { mount, cnv, seq, answer } = lent;
+    let Lent { mount, account, cnv, seq, answer } = lent;
     match event {
-        Event::Call(kind, number, Request::Read { offset, length }) => {
-            words::read(mount, cnv, seq, *kind, *number, *offset, *length, answer)
-        }
-        Event::Call(kind, number, Request::Write { offset, length }) => {
-            words::write(mount, cnv, seq, *kind, *number, *offset, *length, answer)
-        }
-        Event::Call(kind, number, Request::Truncate { size }) => {
-            words::truncate(mount, cnv, seq, *kind, *number, *size, answer)
-        }
-        Event::Call(kind, number, Request::Flush) => words::flush(mount, cnv, seq, *kind, *number, answer),
-        Event::Good(kind, number) => words::complete(mount, cnv, seq, *kind, *number, answer),
+        Event::Call(kind, number, request) => ask_call(lent, *kind, *number, request),
+        Event::Good(kind, number) => words::complete(mount, account, cnv, seq, *kind, *number, answer),
         Event::Failed(kind, number, record, given) => {
-            words::fail(mount, cnv, seq, *kind, *number, record, *given, answer)
+            words::fail(mount, account, cnv, seq, *kind, *number, record, *given, answer)
         }
-        Event::Find(name) => words::find(mount, cnv, seq, name, answer),
-        Event::Show(kind, number) => words::show(mount, cnv, seq, *kind, *number, answer),
+        Event::Find(name) => words::find(mount, account, cnv, seq, name, answer),
+        Event::Show(kind, number) => words::show(mount, account, cnv, seq, *kind, *number, answer),
     }
 }
 
@@ -80,7 +91,7 @@ impl Event {
             Record::Failed(file, zone) => {
                 Some(Event::Failed(u32::from(file.kind), file.number, zone.to_vec(), capacity_given()))
             }
-            Record::Block(_) | Record::SuperBlock(_) | Record::Report(_) | Record::Options(_) => None,
+            Record::Block(_) | Record::SuperBlock(_) | Record::Report(_) | Record::Mount { .. } => None,
         }
     }
 
@@ -143,7 +154,7 @@ pub fn answer_after(before: &[u64], values: &[u64]) -> Vec<u64> {
 }
 
 /// A row of the reference put back over words, where it changed. (Words that are no row, and those after nothing held, stay as they are: a row
-/// that is stored has changed, as it begins or ends to hold a command.)
+/// that is stored has changed, as it begins or ends to hold a command, or has another number of opens.)
 fn table_after(words: &[u64], before: &[Row], after: &[Row]) -> Vec<u64> {
     let mut words = words.to_vec();
     for (number, (old, new)) in before.iter().zip(after).enumerate() {
@@ -159,7 +170,7 @@ pub fn check(lent: &mut Lent, event: &Event) -> u64 {
     let before = lent.clone();
     let number = ask(lent, event);
     let mut expected = before.clone();
-    let volume = if before.answer.len() < ANSWER_WORDS { None } else { before.volume() };
+    let volume = if has_room(&before) { before.volume() } else { None };
     let expected_number = match volume {
         None => 10,
         Some(old) => {
@@ -169,27 +180,38 @@ pub fn check(lent: &mut Lent, event: &Event) -> u64 {
             expected.cnv = table_after(&before.cnv, &old.cnv, &new.cnv);
             expected.seq = table_after(&before.seq, &old.seq, &new.seq);
             expected.mount.splice(..MOUNT_WORDS, mount_words(&new.mount));
+            expected.account.splice(..ACCOUNT_WORDS, account_words(&new.account));
             number
         }
     };
-    assert_eq!(number, expected_number, "{event:?} on {:?}", before.mount);
+    assert_eq!(number, expected_number, "{event:?} on {:?} with {:?}", before.mount, before.account);
     assert_eq!(*lent, expected, "{event:?}");
     typed::check(&before, event, number, lent);
     number
 }
 
 pub fn ask_mount(lent: &mut Lent, block: u64, input: &Input) -> u64 {
-    let Input { super_block, report, options, .. } = input;
+    let Input { super_block, report, options, open_limit, active_limit, .. } = input;
+    let Lent { mount, account, cnv, seq, answer } = lent;
     words::mount(
         block,
         super_block,
         options,
         report,
-        &mut lent.cnv,
-        &mut lent.seq,
-        &mut lent.mount,
-        &mut lent.answer,
+        *open_limit,
+        *active_limit,
+        cnv,
+        seq,
+        mount,
+        account,
+        answer,
     )
+}
+
+/// Whether there is room for what every function writes, or reads, whatever it is asked.
+fn has_room(lent: &Lent) -> bool {
+    let Lent { mount, account, answer, .. } = lent;
+    mount.len() >= MOUNT_WORDS && account.len() >= ACCOUNT_WORDS && answer.len() >= ANSWER_WORDS
 }
 
 /// Mounts both, and compares everything. Gives the number.
@@ -197,7 +219,7 @@ pub fn check_mount(lent: &mut Lent, input: &Input) -> u64 {
     let before = lent.clone();
     let number = ask_mount(lent, u64::from(input.block), input);
     let mut expected = before.clone();
-    if before.mount.len() < MOUNT_WORDS || before.answer.len() < ANSWER_WORDS {
+    if !has_room(&before) {
         assert_eq!(number, 10);
         assert_eq!(*lent, expected);
         return number;
@@ -205,17 +227,19 @@ pub fn check_mount(lent: &mut Lent, input: &Input) -> u64 {
     let mut cnv = vec![Row::EMPTY; before.cnv.len() / ROW_WORDS];
     let mut seq = vec![Row::EMPTY; before.seq.len() / ROW_WORDS];
     let (expected_number, values) = match reference::player::mount::mount(input, &mut cnv, &mut seq) {
-        Ok(mount) => {
+        Ok((mount, account)) => {
             let fill = |words: &mut Vec<u64>, rows: &[Row]| {
                 words.splice(..rows.len() * ROW_WORDS, table_words(rows));
             };
             fill(&mut expected.cnv, &cnv[..mount.cnv_files]);
             fill(&mut expected.seq, &seq[..mount.seq_files]);
             expected.mount.splice(..MOUNT_WORDS, mount_words(&mount));
+            expected.account.splice(..ACCOUNT_WORDS, account_words(&account));
             (0, vec![mount.cnv_files as u64, mount.seq_files as u64])
         }
         Err(refusal) => {
             expected.mount.splice(..MOUNT_WORDS, [0; MOUNT_WORDS]);
+            expected.account.splice(..ACCOUNT_WORDS, [0; ACCOUNT_WORDS]);
             refused(refusal)
         }
     };

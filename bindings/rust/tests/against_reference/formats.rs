@@ -5,8 +5,8 @@ use reference::generator::random::Random;
 use reference::player::format as theirs;
 use reference::player::types::Refusal;
 use reference::program::formats::Formats;
-use zonefs::words::{self, ANSWER_WORDS, LABEL_BYTES, MOUNT_WORDS, ROW_WORDS, UUID_BYTES};
-use zonefs::{Format, MountValue, SuperFields};
+use zonefs::words::{self, ANSWER_WORDS, LABEL_BYTES, UUID_BYTES};
+use zonefs::{Format, Source, SuperFields, Volume, EMPTY_ROW};
 
 use crate::events::{answer_after, refused};
 use crate::typed;
@@ -135,13 +135,12 @@ fn report(records: &[&[u8]], given: bool) -> Vec<u8> {
 }
 
 /// A formatted block mounts with this report, with exactly the values given, those without their bit ignored.
-fn check_mount(case: &FormatCase, block: &[u8], report: &[u8], files: [u64; 2]) {
-    let mut mount = [0; MOUNT_WORDS];
-    let [mut cnv, mut seq] = [[0; 2 * ROW_WORDS]; 2];
-    let mut answer = [0; ANSWER_WORDS];
-    let number = words::mount(case.block, block, b"", report, &mut cnv, &mut seq, &mut mount, &mut answer);
-    assert_eq!((number, answer[..3].to_vec()), (0, vec![2, files[0], files[1]]), "{case:?}");
-    let value = MountValue::from_words(&mount).expect("a mount gives a mount value");
+fn check_mount(case: &FormatCase, block: &[u8], report: &[u8], files: [u32; 2]) {
+    let (options, open_limit, active_limit) = (&b""[..], 0, 0);
+    let source = Source { block: case.block, super_block: block, options, report, open_limit, active_limit };
+    let mounted = Volume::mount(&source, [EMPTY_ROW; 2], [EMPTY_ROW; 2]);
+    let value = mounted.ok().and_then(|volume| volume.value()).expect("the block mounts");
+    assert_eq!([value.cnv_files, value.seq_files], files, "{case:?}");
     let used =
         |bit: u64, given: u32, otherwise: u32| if case.features & bit != 0 { given } else { otherwise };
     assert_eq!((value.block, value.uuid), (case.block, case.uuid), "{case:?}");

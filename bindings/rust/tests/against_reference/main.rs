@@ -1,29 +1,37 @@
-//! The library, linked into this process, against the reference on random inputs, call by call: number, values, mount words and both
-//! tables, super blocks made and read; and the typed functions against those on words.
+//! The library, linked into this process, against the reference on random inputs, call by call: number, values, mount words, account words and
+//! both tables, super blocks made and read; and the typed functions against those on words.
 
 mod convert;
 mod events;
 mod formats;
 mod inputs;
+mod openings;
 mod situations;
 mod typed;
 
 use std::collections::BTreeMap;
 
 use events::{ask_mount, check, check_mount, Event, Lent};
-use inputs::{any_event, damage};
+use inputs::{any_event, change_opens, damage, opening_event};
 use reference::generator::generate;
 use reference::generator::random::Random;
 use reference::player::mount::Input;
-use reference::player::play::read_input;
+use reference::player::play::{mount_volume, read_input};
 use reference::player::tape::{Next, Reader};
 use reference::player::types::MAX_FILES;
 use situations::Situations;
-use zonefs::words::{ANSWER_RECORD_REASON, ANSWER_WORDS, ANSWER_ZONE_REASON, MOUNT_WORDS};
+use zonefs::words::{ACCOUNT_WORDS, ANSWER_RECORD_REASON, ANSWER_WORDS, ANSWER_ZONE_REASON, MOUNT_WORDS};
 
 /// The mount of a tape; None if it isn't there whole.
 fn input_of(reader: &mut Reader) -> Option<Input> {
     read_input(reader).map(|(_, input)| input)
+}
+
+/// The mount of a generated tape, if it isn't refused and has seq files, no more than these tests lend rows for.
+fn mounting_input(seed: u64, index: u64) -> Option<Input> {
+    let input = input_of(&mut Reader::new(&generate(seed, index).bytes))?;
+    let mount = mount_volume(&input).ok()?.mount;
+    ((1..=60).contains(&mount.seq_files) && mount.cnv_files <= 60).then_some(input)
 }
 
 /// What the next record of a tape asks, if there is one.
@@ -89,7 +97,7 @@ fn tapes_give_the_same() {
             play(&mut lent, &mut reader, &mut seen);
         }
     }
-    all_seen("number", &seen.numbers, &[0, 1, 2, 3, 4, 5, 6, 7, 8, 9]);
+    all_seen("number", &seen.numbers, &[0, 1, 2, 3, 4, 5, 6, 7, 8, 9, 11, 12, 13, 14]);
     println!("tapes: {} mounts, calls and completions, all as the reference has them", seen.total());
     all_seen("number", &seen.numbers, &[20, 22, 23, 24, 25, 26, 27, 28, 29, 30, 33]);
     all_seen("a zone's reason", &seen.zone_reasons, &[1, 2, 3, 4, 5, 6, 7]);
@@ -122,12 +130,36 @@ fn any_words_give_the_same() {
             met.note_event(&before, &event, number, &lent);
         }
     }
-    met.all_met();
-    all_seen("number", &seen.numbers, &[0, 1, 2, 3, 4, 5, 6, 7, 8, 9, 10]);
+    met.all_met(situations::all());
+    all_seen("number", &seen.numbers, &[0, 1, 2, 3, 4, 5, 6, 7, 8, 9, 10, 11, 12, 13, 14]);
     // Only here a record may have another length.
     all_seen("a record's reason", &seen.record_reasons, &[0]);
     println!("any words: {} calls and completions, all as the reference has them", seen.total());
     assert!(seen.total() > 100_000);
+}
+
+#[test]
+fn any_opens_and_accounts_give_the_same() {
+    let mut seen = Seen::default();
+    let mut met = Situations::default();
+    let inputs: Vec<Input> = (0..400).filter_map(|index| mounting_input(11, index)).collect();
+    for index in 0..12_000 {
+        let mut random = Random::new(10, index as u64);
+        let mut lent = Lent::any(&mut random, 60);
+        assert_eq!(check_mount(&mut lent, &inputs[index % inputs.len()]), 0);
+        for _ in 0..random.below(30) {
+            if random.percent(40) {
+                change_opens(&mut random, &mut lent);
+            }
+            let event = opening_event(&mut random, &lent);
+            let before = lent.clone();
+            let number = check(&mut lent, &event);
+            seen.note(number, &lent.answer);
+            met.note_event(&before, &event, number, &lent);
+        }
+    }
+    met.all_met(openings::all());
+    println!("opens and accounts: {} calls and completions, all as the reference has them", seen.total());
 }
 
 #[test]
@@ -140,17 +172,38 @@ fn short_words_write_nothing() {
         let longer = random.below(3) as usize;
         lent.answer.extend(vec![7; longer]);
         lent.mount.extend(vec![7; longer]);
+        lent.account.extend(vec![7; longer]);
         check_mount(&mut lent, &input);
-        if random.percent(50) {
-            lent.answer.truncate(random.below(ANSWER_WORDS as u64) as usize);
-        } else {
-            lent.mount.truncate(random.below(MOUNT_WORDS as u64) as usize);
-        }
+        let (words, whole) = match random.below(3) {
+            0 => (&mut lent.answer, ANSWER_WORDS),
+            1 => (&mut lent.mount, MOUNT_WORDS),
+            _ => (&mut lent.account, ACCOUNT_WORDS),
+        };
+        words.truncate(random.below(whole as u64) as usize);
         let before = lent.clone();
         let event = any_event(&mut random, &lent);
         assert_eq!(check(&mut lent, &event), 10);
         assert_eq!(check_mount(&mut lent, &input), 10);
         assert_eq!(lent, before);
+    }
+}
+
+/// An account word above 32 bits is refused by all but a mount, which doesn't read it.
+#[test]
+fn wide_accounts_write_nothing() {
+    for index in 0..2_000 {
+        let mut random = Random::new(9, index);
+        let bytes = generate(6, index % 200).bytes;
+        let Some(input) = input_of(&mut Reader::new(&bytes)) else { continue };
+        let mut lent = Lent::any(&mut random, 30);
+        let mounted = check_mount(&mut lent, &input);
+        let wide = random.pick(&[1 << 32, (1 << 32) + 1, u64::MAX]);
+        lent.account[random.below(ACCOUNT_WORDS as u64) as usize] = wide;
+        let before = lent.clone();
+        let event = any_event(&mut random, &lent);
+        assert_eq!(check(&mut lent, &event), 10);
+        assert_eq!(lent, before);
+        assert_eq!(check_mount(&mut lent, &input), mounted);
     }
 }
 

@@ -1,4 +1,5 @@
-//! What several outstanding commands and rows that hold anything can lead to. The tests count each, so that none of it goes untried.
+//! What several outstanding commands and rows that hold anything can lead to. The tests count each, so that none of it goes untried. What opens and
+//! accounts can lead to is in `openings`.
 
 use std::collections::BTreeMap;
 
@@ -8,6 +9,7 @@ use zonefs::words::{MOUNT_READ_ONLY, ROW_HELD, ROW_HELD_ADDRESS, ROW_HELD_LENGTH
 use crate::convert::{coded, KINDS};
 use crate::events::{Event, Lent};
 use crate::inputs::busy_files;
+use crate::openings;
 
 /// How often each was met.
 #[derive(Default)]
@@ -33,8 +35,12 @@ const COMPLETIONS: [&str; 9] = [
     "a good write on a read-only mount",
 ];
 
+pub fn all() -> impl Iterator<Item = &'static str> {
+    CALLS.into_iter().chain(COMPLETIONS)
+}
+
 impl Situations {
-    fn note(&mut self, name: &'static str, met: bool) {
+    pub fn note(&mut self, name: &'static str, met: bool) {
         if met {
             *self.0.entry(name).or_default() += 1;
         }
@@ -57,6 +63,7 @@ impl Situations {
             }
             Event::Find(_) | Event::Show(..) => {}
         }
+        openings::note(self, before, event, number, after);
     }
 
     fn note_call(&mut self, busy: usize, row: Option<Row>, number: u64, changed: bool) {
@@ -87,8 +94,8 @@ impl Situations {
         self.note(COMPLETIONS[8], number == 0 && writes && before.mount[MOUNT_READ_ONLY] == 1);
     }
 
-    pub fn all_met(&self) {
-        for name in CALLS.iter().chain(&COMPLETIONS) {
+    pub fn all_met(&self, names: impl Iterator<Item = &'static str>) {
+        for name in names {
             let count = self.0.get(name).copied().unwrap_or(0);
             assert!(count >= 100, "the inputs led to this {count} times only: {name}");
         }
@@ -96,7 +103,7 @@ impl Situations {
 }
 
 /// The row of a file that there is.
-fn named_row(lent: &Lent, event: &Event) -> Option<Row> {
+pub fn named_row(lent: &Lent, event: &Event) -> Option<Row> {
     let (kind, number) = event.file()?;
     lent.volume()?.existing_row(coded(&KINDS, u64::from(kind))?, number).ok()
 }
@@ -108,7 +115,7 @@ fn is_possible(lent: &Lent, event: &Event) -> bool {
 }
 
 /// Whether the row of a file that there is holds nothing, with something behind that.
-fn has_idle_words(lent: &Lent, event: &Event) -> bool {
+pub fn has_idle_words(lent: &Lent, event: &Event) -> bool {
     let Some((kind, number)) = event.file() else { return false };
     let table = if kind == 0 { &lent.cnv } else { &lent.seq };
     let row = table.chunks_exact(ROW_WORDS).nth(number as usize);

@@ -4,10 +4,11 @@ use reference::generator::format::FormatCase;
 use reference::player::calls::Request;
 use reference::player::mount::Input;
 use reference::player::types::Held;
-use zonefs::words::{ANSWER_VALUES, ANSWER_WORDS, MOUNT_WORDS};
-use zonefs::{FileId, FileKind, Format, MountValue, Refusal, Reply, RowWords, Source, SuperFields, Volume};
+use zonefs::words::{ACCOUNT_WORDS, ANSWER_VALUES, ANSWER_WORDS, MOUNT_WORDS};
+use zonefs::{Account, FileId, FileKind, Format, MountValue};
+use zonefs::{Refusal, Reply, RowWords, Source, SuperFields, Volume};
 
-use crate::convert::{coded, command_values, mount_of, KINDS};
+use crate::convert::{account_of, account_words, coded, command_values, mount_of, KINDS};
 use crate::events::{self, Answer, Event, Lent};
 
 type Owned = Volume<Vec<RowWords>>;
@@ -15,7 +16,9 @@ type Owned = Volume<Vec<RowWords>>;
 /// None where the words are shorter or longer than the types have them, which only words can be.
 fn volume_of(lent: &Lent) -> Option<Owned> {
     let mount = lent.mount.as_slice().try_into().ok()?;
-    (lent.answer.len() >= ANSWER_WORDS).then(|| Volume::from_parts(mount, rows(&lent.cnv), rows(&lent.seq)))
+    let account = lent.account.as_slice().try_into().ok()?;
+    let answers = lent.answer.len() >= ANSWER_WORDS;
+    answers.then(|| Volume::from_parts(mount, account, rows(&lent.cnv), rows(&lent.seq)))
 }
 
 fn rows(words: &[u64]) -> Vec<RowWords> {
@@ -47,6 +50,8 @@ fn call(volume: &mut Owned, file: FileId, request: &Request) -> Result<Reply, Re
         Request::Write { offset, length } => volume.write(file, offset, length),
         Request::Truncate { size } => volume.truncate(file, size),
         Request::Flush => volume.flush(file),
+        Request::Open => volume.open(file),
+        Request::Close => volume.close(file),
     }
 }
 
@@ -85,6 +90,7 @@ fn answered(number: u64, before: &Lent, after: &Lent) -> Answer {
 pub fn check(before: &Lent, event: &Event, number: u64, after: &Lent) {
     let Some(mut volume) = volume_of(before) else { return };
     check_value(&volume);
+    check_account(&volume);
     check_outstanding(&volume, before, event);
     let Some(answer) = ask(&mut volume, event) else { return };
     assert_eq!(answer, answered(number, before, after), "{event:?}");
@@ -92,16 +98,18 @@ pub fn check(before: &Lent, event: &Event, number: u64, after: &Lent) {
 }
 
 pub fn check_mount(before: &Lent, input: &Input, number: u64, after: &Lent) {
-    if before.mount.len() != MOUNT_WORDS {
+    if (before.mount.len(), before.account.len()) != (MOUNT_WORDS, ACCOUNT_WORDS) {
         return;
     }
-    let Input { super_block, report, options, .. } = input;
-    let source = Source { block: u64::from(input.block), super_block, options, report };
+    let Input { super_block, report, options, open_limit, active_limit, .. } = input;
+    let (block, open_limit, active_limit) = (u64::from(input.block), *open_limit, *active_limit);
+    let source = Source { block, super_block, options, report, open_limit, active_limit };
     let (mut cnv, mut seq) = (rows(&before.cnv), rows(&before.seq));
-    let mounted = Volume::mount(&source, &mut cnv, &mut seq).map(|volume| *volume.mount_words());
+    let mounted = Volume::mount(&source, &mut cnv, &mut seq)
+        .map(|volume| (*volume.mount_words(), *volume.account_words()));
     let answer = match mounted {
-        Ok(mount) => {
-            assert_eq!(after.mount, mount);
+        Ok((mount, account)) => {
+            assert_eq!((&after.mount[..], &after.account[..]), (&mount[..], &account[..]));
             (0, MountValue::from_words(&mount).map(counts).expect("a mount gives a mount value"))
         }
         Err(refusal) => refused(refusal),
@@ -152,7 +160,15 @@ fn check_value(volume: &Owned) {
         )
     );
     assert_eq!((value.uuid, value.read_only), (expected.uuid, expected.read_only));
-    assert_eq!(value.policy.code(), expected.policy as u64);
+    assert_eq!((value.policy.code(), value.explicit_open), (expected.policy as u64, expected.explicit_open));
+}
+
+/// The account as the tests themselves read it from the words.
+fn check_account(volume: &Owned) {
+    let account = volume.account().map(|Account { open, active, open_limit, active_limit }| {
+        [open, active, open_limit, active_limit].map(u64::from)
+    });
+    assert_eq!(account, account_of(volume.account_words()).as_ref().map(account_words));
 }
 
 /// What the event's file has outstanding, as the reference reads it from the words. There is no function on words for it.

@@ -12,7 +12,7 @@ refusing-requires : tie.Need-refusing-requires
 refusing-requires c κs = search needs
 
 returns : tie.Need-returns
-returns c = let a = c .before .before .before .before .before .before .args in
+returns c = let a = c .before .before .before .before .before .args in
     simp (file-counts _ (a .cnv .now) (a .seq .now) (a .kind) (a .number) (sym (c .before .before .counts-fit .ensures .0) ∙ not-true _ (c .before .if1 .taken)), c .refusing .ensures)
 
 lookup-of-requires : tie.Need-lookup-of-requires

@@ -25,7 +25,7 @@ returns c = simp (sym (c .before .before .before .is-kind .ensures) ∙ c .befor
 
 returns-2 : tie.Need-returns-2
 unfolding effectBy
-returns-2 c = simp (sym (c .before .before .before .before .is-kind .ensures) ∙ c .before .before .before .if1 .left, c .refusing .ensures, c .before .no-kind .ensures)
+returns-2 c = simp (sym (c .before .before .before .is-kind .ensures) ∙ c .before .before .if1 .left, c .refusing .ensures, c .before .no-kind .ensures)
 
 pub call-by-spec : {M : Type 1} → statement M
 call-by-spec =

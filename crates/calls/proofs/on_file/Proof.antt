@@ -1,3 +1,6 @@
+use mathlib.Core.Path.{sym, subst}
+use Rattle.decision.specs.Facts.{Settles}
+use Rattle.calls.proofs.Laws.{row-settles}
 use borrow.Author.Needs.{needs}
 use Rattle.calls.proofs.on_file.Statement.{statement}
 use Rattle.calls.proofs.on_file.Tie as tie
@@ -6,10 +9,10 @@ enum-known-file : tie.Need-enum-known-file
 enum-known-file c = search needs
 
 on-row-requires : tie.Need-on-row-requires
-on-row-requires c κs = (c .before .before .before .pre .0, simp (c .before .file .given .1) at (c .before .before .before .pre .1))
+on-row-requires c κs = (c .before .before .before .pre .0, simp (c .before .file .given .1) at (c .before .before .before .pre .1 .1))
 
 settle-requires : tie.Need-settle-requires
-settle-requires c κs = search needs
+settle-requires c κs = let a = c .before .before .before .before .args in let r = c .before .before .file .given .0 .0 in (c .before .before .before .before .pre .1 .0, subst (Settles (a .kind) (a .x) r) (sym (c .on-row .ensures)) (row-settles (a .m) (a .kind) r (a .x)))
 
 enum-known-file-2 : tie.Need-enum-known-file-2
 enum-known-file-2 c = search needs

@@ -1,52 +1,26 @@
-use mathlib.Core.Path.{_∙_, sym}
-use borrow.Author.Tests.{not-true, not-false}
-use Rattle.capi.specs.Interface.{mountGiven}
-use borrow.Author.Needs.{needs}
 use Rattle.capi.proofs.zonefs_mount.Statement.{statement}
 use Rattle.capi.proofs.zonefs_mount.Tie as tie
 
-is-roomy-requires : tie.Need-is-roomy-requires
-is-roomy-requires c κs = search needs
-
-returns : tie.Need-returns
-unfolding mountGiven
-returns c = rw (sym (c .before .is-roomy .ensures .0) ∙ not-true _ (c .if1 .taken))
-
 mount-requires : tie.Need-mount-requires
-mount-requires c κs = search needs
-
-tell-mounted-requires : tie.Need-tell-mounted-requires
-tell-mounted-requires c κs = c .before .before .before .before .before .before .before .before .before .before .is-roomy .ensures .1 (not-false _ (c .before .before .before .before .before .before .before .before .before .if1 .left))
+mount-requires c κs = tt
 
 same-length : tie.Need-same-length
-same-length c = search needs
+same-length c = c .before .before .before .before .before .before .before .before .before .before .mount .kept .1 .1 .1 .1 .1 .1 .0
 
 same-length-2 : tie.Need-same-length-2
-same-length-2 c = search needs
+same-length-2 c = c .before .before .before .before .before .before .before .before .before .before .mount .kept .1 .1 .1 .1 .1 .1 .1 .0
 
 same-length-3 : tie.Need-same-length-3
-same-length-3 c = search needs
+same-length-3 c = c .before .before .before .before .before .before .before .before .before .before .mount .kept .1 .1 .1 .1 .1 .1 .1 .1 .0
 
 same-length-4 : tie.Need-same-length-4
-same-length-4 c = search needs
+same-length-4 c = c .before .before .before .before .before .before .before .before .before .before .mount .kept .1 .1 .1 .1 .1 .1 .1 .1 .1 .0
 
-returns-2 : tie.Need-returns-2
-unfolding mountGiven
-returns-2 c = let e = sym (c .before .before .before .before .before .before .before .before .before .before .before .before .before .before .before .is-roomy .ensures .0) ∙ not-false _ (c .before .before .before .before .before .before .before .before .before .before .before .before .before .before .if1 .left) in
-    let t = c .before .before .before .before .tell-mounted .ensures in
-    let o = c .before .before .before .before .before .before .before .before .before .mount .ensures in
-    rw (e, ← o .0, ← o .1 .0, ← o .1 .1 .0, ← o .1 .1 .1) (t _ _)
+same-length-5 : tie.Need-same-length-5
+same-length-5 c = c .before .before .before .before .before .before .before .before .before .before .mount .kept .1 .1 .1 .1 .1 .1 .1 .1 .1 .1 .0
+
+returns : tie.Need-returns
+returns c = c .before .before .before .before .before .before .before .before .before .before .mount .ensures
 
 pub zonefs-mount-spec : {M : Type 1} → statement M
-zonefs-mount-spec =
-    tie.close
-    (tie.spec
-    is-roomy-requires
-    returns
-    mount-requires
-    tell-mounted-requires
-    same-length
-    same-length-2
-    same-length-3
-    same-length-4
-    returns-2)
+zonefs-mount-spec = tie.close (tie.spec mount-requires same-length same-length-2 same-length-3 same-length-4 same-length-5 returns)

@@ -9,13 +9,13 @@ enum-told : tie.Need-enum-told
 enum-told c = search needs
 
 row-in-requires : tie.Need-row-in-requires
-row-in-requires c κs = counts-lent (c .before .before .before .before .args .v) _ _ (c .before .before .before .before .pre) Conventional
+row-in-requires c κs = counts-lent (c .before .before .before .before .before .args .m) _ _ (c .before .before .before .before .before .pre) Conventional
 
 enum-told-2 : tie.Need-enum-told-2
 enum-told-2 c = search needs
 
 row-in-requires-2 : tie.Need-row-in-requires-2
-row-in-requires-2 c κs = counts-lent (c .before .before .before .before .args .v) _ _ (c .before .before .before .before .pre) Sequential
+row-in-requires-2 c κs = counts-lent (c .before .before .before .before .before .args .m) _ _ (c .before .before .before .before .before .pre) Sequential
 
 returns : tie.Need-returns
 unfolding lookupOf

@@ -15,6 +15,9 @@ is-allowed-requires c κs = search needs
 is-full-requires : tie.Need-is-full-requires
 is-full-requires c κs = search needs
 
+is-openable-requires : tie.Need-is-openable-requires
+is-openable-requires c κs = search needs
+
 returns : tie.Need-returns
 unfolding soundRow
 returns c = cc
@@ -22,4 +25,4 @@ returns c = cc
 pub sound-row-spec : {M : Type 1} → statement M
 sound-row-spec =
     tie.close
-    (tie.spec is-placed-requires is-sized-requires is-allowed-requires is-full-requires returns)
+    (tie.spec is-placed-requires is-sized-requires is-allowed-requires is-full-requires is-openable-requires returns)

@@ -1,27 +1,22 @@
-use mathlib.Core.Path.{_∙_, sym}
-use Rattle.checks.proofs.Laws.{sound-row}
+use mathlib.Core.Path.{_∙_, ap}
+use Rattle.checks.specs.Facts.{countedFile}
+use Rattle.checks.proofs.Laws.{slot-counted}
 use borrow.Author.Needs.{needs}
 use Rattle.checks.proofs.sound_slot.Statement.{statement}
 use Rattle.checks.proofs.sound_slot.Tie as tie
 
-enum-known-slot : tie.Need-enum-known-slot
-enum-known-slot c = search needs
+ruled-slot-requires : tie.Need-ruled-slot-requires
+ruled-slot-requires c κs = search needs
 
-enum-told : tie.Need-enum-told
-enum-told c = search needs
+counted-file-requires : tie.Need-counted-file-requires
+counted-file-requires c κs = search needs
 
 returns : tie.Need-returns
-returns c = (simp (c .enum-told .given .1), tt)
-
-sound-row-requires : tie.Need-sound-row-requires
-sound-row-requires c κs = search needs
-
-returns-2 : tie.Need-returns-2
-returns-2 c = (simp (c .before .before .before .slot .given .1, sym (c .before .sound-row .ensures) ∙ c .if1 .taken), sound-row _ _ _ (sym (c .before .sound-row .ensures) ∙ c .if1 .taken) .ends)
-
-returns-3 : tie.Need-returns-3
-returns-3 c = (simp (c .before .before .before .slot .given .1, sym (c .before .sound-row .ensures) ∙ c .if1 .left), tt)
+returns c =
+    let a = c .before .before .before .args in
+    c .counted-file .ensures .0
+    ∙ ap (countedFile (a .m) (a .kind)) (c .before .ruled-slot .ensures .0)
+    ∙ slot-counted (a .m) (a .kind) (a .slot)
 
 pub sound-slot-spec : {M : Type 1} → statement M
-sound-slot-spec =
-    tie.close (tie.spec enum-known-slot enum-told returns sound-row-requires returns-2 returns-3)
+sound-slot-spec = tie.close (tie.spec ruled-slot-requires counted-file-requires returns)

@@ -12,7 +12,7 @@ is-faultless-requires : tie.Need-is-faultless-requires
 is-faultless-requires c κs = search needs
 
 recovered-requires : tie.Need-recovered-requires
-recovered-requires c κs = c .before .before .misfit .ensures .1 (sym (c .before .is-faultless .ensures) ∙ c .if1 .taken)
+recovered-requires c κs = (c .before .before .before .before .pre .room, c .before .before .misfit .ensures .1 (sym (c .before .is-faultless .ensures) ∙ c .if1 .taken))
 
 refusing-requires : tie.Need-refusing-requires
 refusing-requires c κs = search needs

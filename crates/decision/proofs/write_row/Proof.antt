@@ -14,7 +14,7 @@ enum-told : tie.Need-enum-told
 enum-told c = search needs
 
 transfer-requires : tie.Need-transfer-requires
-transfer-requires c κs = omega (arith, write-checked _ _ _ _ _ (sym (c .before .before .write-checks .ensures) ∙ c .enum-told .given .1) .fits)
+transfer-requires c κs = omega (arith, write-checked _ _ _ _ _ _ (sym (c .before .before .write-checks .ensures) ∙ c .enum-told .given .1) .fits)
 
 enum-known-verdict : tie.Need-enum-known-verdict
 enum-known-verdict c = search needs

@@ -7,7 +7,7 @@ enum-known-file : tie.Need-enum-known-file
 enum-known-file c = search needs
 
 is-issuable-requires : tie.Need-is-issuable-requires
-is-issuable-requires c κs = (c .before .before .before .before .before .pre .0, simp (c .before .file .given .1) at (c .before .before .before .before .before .pre .1))
+is-issuable-requires c κs = (c .before .before .before .before .before .pre .0, (simp (c .before .file .given .1) at (c .before .before .before .before .before .pre .1 .0), simp (c .before .file .given .1) at (c .before .before .before .before .before .pre .1 .1)))
 
 enum-told : tie.Need-enum-told
 enum-told c = search needs

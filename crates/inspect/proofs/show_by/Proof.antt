@@ -22,7 +22,7 @@ returns c = simp (sym (c .before .before .before .is-kind .ensures) ∙ c .befor
 
 returns-2 : tie.Need-returns-2
 unfolding showBy
-returns-2 c = simp (sym (c .before .before .before .is-kind .ensures) ∙ c .before .before .if1 .left, c .no-kind .ensures)
+returns-2 c = simp (sym (c .before .before .is-kind .ensures) ∙ c .before .if1 .left, c .no-kind .ensures)
 
 pub show-by-spec : {M : Type 1} → statement M
 show-by-spec =

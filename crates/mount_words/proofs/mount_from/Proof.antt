@@ -6,12 +6,16 @@ use Rattle.mount_words.proofs.mount_from.Tie as tie
 volume-from-requires : tie.Need-volume-from-requires
 volume-from-requires c κs = search needs
 
-shared-slice-read-t4 : tie.Need-shared-slice-read-t4
-shared-slice-read-t4 c = search needs
+account-from-requires : tie.Need-account-from-requires
+account-from-requires c κs = search needs
+
+shared-slice-read-t6 : tie.Need-shared-slice-read-t6
+shared-slice-read-t6 c = search needs
 
 returns : tie.Need-returns
 unfolding mountFrom
 returns c = cc
 
 pub mount-from-spec : {M : Type 1} → statement M
-mount-from-spec = tie.close (tie.spec volume-from-requires shared-slice-read-t4 returns)
+mount-from-spec =
+    tie.close (tie.spec volume-from-requires account-from-requires shared-slice-read-t6 returns)

@@ -1,20 +1,22 @@
-use Rattle.mount_words.specs.Words.{withState}
+use mathlib.Core.Path.{sym}
 use borrow.Author.Needs.{needs}
 use Rattle.mount_words.proofs.put_state.Statement.{statement}
 use Rattle.mount_words.proofs.put_state.Tie as tie
 
-flag-code-requires : tie.Need-flag-code-requires
-flag-code-requires c κs = search needs
+put-mark-requires : tie.Need-put-mark-requires
+put-mark-requires c κs = search needs
 
-slice-write-w : tie.Need-slice-write-w
-slice-write-w c = search needs
+put-counts-requires : tie.Need-put-counts-requires
+put-counts-requires c κs = search needs
 
 same-length : tie.Need-same-length
 same-length c = search needs
 
+same-length-2 : tie.Need-same-length-2
+same-length-2 c = search needs
+
 returns : tie.Need-returns
-unfolding withState
-returns c = rw (c .flag-code .ensures)
+returns c = (sym (c .before .before .before .before .before .before .put-mark .ensures), sym (c .before .before .put-counts .ensures))
 
 pub put-state-spec : {M : Type 1} → statement M
-put-state-spec = tie.close (tie.spec flag-code-requires slice-write-w same-length returns)
+put-state-spec = tie.close (tie.spec put-mark-requires put-counts-requires same-length same-length-2 returns)

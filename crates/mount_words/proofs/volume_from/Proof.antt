@@ -32,8 +32,11 @@ shared-slice-read-uuid-from-2 c = search needs
 uuid-from-requires : tie.Need-uuid-from-requires
 uuid-from-requires c κs = search needs
 
-shared-slice-read-t10 : tie.Need-shared-slice-read-t10
-shared-slice-read-t10 c = search needs
+shared-slice-read-explicit : tie.Need-shared-slice-read-explicit
+shared-slice-read-explicit c = search needs
+
+shared-slice-read-t14 : tie.Need-shared-slice-read-t14
+shared-slice-read-t14 c = search needs
 
 returns : tie.Need-returns
 returns c = cc
@@ -52,5 +55,6 @@ volume-from-spec =
     shared-slice-read-uuid-from
     shared-slice-read-uuid-from-2
     uuid-from-requires
-    shared-slice-read-t10
+    shared-slice-read-explicit
+    shared-slice-read-t14
     returns)

@@ -28,11 +28,16 @@ slice-aggregate-asks-4 c = search needs
 asks-requires-4 : tie.Need-asks-requires-4
 asks-requires-4 c κs = search needs
 
+slice-aggregate-asks-5 : tie.Need-slice-aggregate-asks-5
+slice-aggregate-asks-5 c = search needs
+
+asks-requires-5 : tie.Need-asks-requires-5
+asks-requires-5 c κs = search needs
+
 returns : tie.Need-returns
 unfolding pieceOf
-returns c =
-    c .asks4 .ensures
-    ∙ rw (c .before .before .asks3 .ensures, c .before .before .before .before .asks2 .ensures, c .before .before .before .before .before .before .asks .ensures)
+returns c = c .asks5 .ensures
+    ∙ rw (c .before .before .asks4 .ensures, c .before .before .before .before .asks3 .ensures, c .before .before .before .before .before .before .asks2 .ensures, c .before .before .before .before .before .before .before .before .asks .ensures)
 
 pub piece-of-spec : {M : Type 1} → statement M
 piece-of-spec =
@@ -46,4 +51,6 @@ piece-of-spec =
     asks-requires-3
     slice-aggregate-asks-4
     asks-requires-4
+    slice-aggregate-asks-5
+    asks-requires-5
     returns)

@@ -6,15 +6,14 @@ use native.Mathlib.Nat.{le-of-eq}
 use native.Mathlib.Omega.{arith}
 use borrow.Author.Needs.{needs}
 use borrow.Author.Tests.{le-leb, lt-leb}
-use Rattle.types.specs.declared.ErrorPolicy.the-variants.{RemountRo}
-use Rattle.options.specs.declared.Options.the-variants.{Policy}
-use Rattle.options.specs.Options.{split, skipEmpty, afterPieces, optionsOf}
+use Rattle.options.specs.declared.Options.the-variants.{Good}
+use Rattle.options.specs.Options.{split, skipEmpty, afterPieces, byDefault, optionsOf}
 use Rattle.options.proofs.Laws.{piecesFrom, pieces-all, pieces-end, next-piece}
 use Rattle.options.proofs.read_options.Statement.{statement}
 use Rattle.options.proofs.read_options.Tie as tie
 
 abbrev Inv-loop : tie.InvT-loop
-Inv-loop text so-far₀ at₀ so-far at = (length text ≤ 255) × (at ≤ length text + 1) × (afterPieces so-far (piecesFrom text at) ≡ afterPieces (Policy RemountRo) (split text))
+Inv-loop text so-far₀ at₀ so-far at = (length text ≤ 255) × (at ≤ length text + 1) × (afterPieces so-far (piecesFrom text at) ≡ afterPieces (Good byDefault) (split text))
 
 abbrev μ-loop : tie.MeasureT-loop
 μ-loop text so-far₀ at₀ so-far at = length text + 1 - at
@@ -41,17 +40,17 @@ piece-length-requires c κs = search needs
 add-end : tie.Need-add-end Inv-loop μ-loop
 add-end c = search needs
 
-sub-with-piece : tie.Need-sub-with-piece Inv-loop μ-loop
-sub-with-piece c = search needs
+sub-after-piece : tie.Need-sub-after-piece Inv-loop μ-loop
+sub-after-piece c = search needs
 
-part-with-piece-start : tie.Need-part-with-piece-start Inv-loop μ-loop
-part-with-piece-start c = search needs
+part-after-piece-start : tie.Need-part-after-piece-start Inv-loop μ-loop
+part-after-piece-start c = search needs
 
-part-with-piece-end : tie.Need-part-with-piece-end Inv-loop μ-loop
-part-with-piece-end c = search needs
+part-after-piece-end : tie.Need-part-after-piece-end Inv-loop μ-loop
+part-after-piece-end c = search needs
 
-with-piece-requires : tie.Need-with-piece-requires Inv-loop μ-loop
-with-piece-requires c κs = search needs
+after-piece-requires : tie.Need-after-piece-requires Inv-loop μ-loop
+after-piece-requires c κs = search needs
 
 add-at : tie.Need-add-at Inv-loop μ-loop
 add-at c = search needs
@@ -65,7 +64,7 @@ loop-again c =
     let l = c .before .before .before .before .before .loop in
     let p = c .before .before .piece-length in
     let rest = take-all (length text - l .at) (drop (l .at) text) (le-of-eq (length-drop (l .at) text)) in
-    (search needs, search needs, next-piece text _ (l .at) (p .result) (l .so-far) (c .with-piece .result) (omega arith) rest (p .ensures .0) (p .ensures .1 .0) (p .ensures .1 .1) (c .with-piece .ensures) ∙ l .inv .2)
+    (search needs, search needs, next-piece text _ (l .at) (p .result) (l .so-far) (c .after-piece .result) (omega arith) rest (p .ensures .0) (p .ensures .1 .0) (p .ensures .1 .1) (c .after-piece .ensures) ∙ l .inv .2)
 
 returns-2 : tie.Need-returns-2 Inv-loop μ-loop
 unfolding optionsOf skipEmpty
@@ -88,10 +87,10 @@ read-options-spec =
     part-piece-length-end
     piece-length-requires
     add-end
-    sub-with-piece
-    part-with-piece-start
-    part-with-piece-end
-    with-piece-requires
+    sub-after-piece
+    part-after-piece-start
+    part-after-piece-end
+    after-piece-requires
     add-at
     loop-less
     loop-again

@@ -12,30 +12,33 @@ is-usable-requires c κs = search needs
 same-length : tie.Need-same-length
 same-length c = search needs
 
+same-length-2 : tie.Need-same-length-2
+same-length-2 c = search needs
+
 returns : tie.Need-returns
 unfolding stepWords
 returns c = rw (sym (c .before .is-usable .ensures .0) ∙ not-true _ (c .if1 .taken))
 
 mount-from-requires : tie.Need-mount-from-requires
 mount-from-requires c κs =
-    let p = c .before in
-    p .before .is-usable .ensures .1 (not-false _ (p .if1 .left)) .0
+    let p = c .before .before in
+    let known = p .before .is-usable .ensures .1 (not-false _ (p .if1 .left)) in
+    (known .0, known .1)
 
 end-command-requires : tie.Need-end-command-requires
 end-command-requires c κs = search needs
 
 put-state-requires : tie.Need-put-state-requires
 put-state-requires c κs =
-    let p = c .before .before .before .before .before .before .before .before .before .before .before in
-    p .before .is-usable .ensures .1 (not-false _ (p .if1 .left)) .0
+    let p = c .before .before .before .before .before .before .before .before .before .before .before .before .before in
+    let known = p .before .is-usable .ensures .1 (not-false _ (p .if1 .left)) in
+    (known .0, known .1)
 
 tell-requires : tie.Need-tell-requires
 tell-requires c κs =
-    let p = c .before .before .before .before .before .before .before .before .before .before .before .before .before .before .before in
-    p .before .is-usable .ensures .1 (not-false _ (p .if1 .left)) .1
-
-same-length-2 : tie.Need-same-length-2
-same-length-2 c = search needs
+    let p = c .before .before .before .before .before .before .before .before .before .before .before .before .before .before .before .before .before .before .before in
+    let known = p .before .is-usable .ensures .1 (not-false _ (p .if1 .left)) in
+    known .2
 
 same-length-3 : tie.Need-same-length-3
 same-length-3 c = search needs
@@ -46,15 +49,21 @@ same-length-4 c = search needs
 same-length-5 : tie.Need-same-length-5
 same-length-5 c = search needs
 
+same-length-6 : tie.Need-same-length-6
+same-length-6 c = search needs
+
+same-length-7 : tie.Need-same-length-7
+same-length-7 c = search needs
+
 returns-2 : tie.Need-returns-2
 unfolding stepWords
 returns-2 c =
-    let o = c .before .before .before .before .before .before .before .before .before .before .before .before .before in
+    let o = c .before .before .before .before .before .before .before .before .before .before .before .before .before .before .before .before in
     let m = o .before .before .before in
-    let p = m .before .before in
+    let p = m .before .before .before in
     let e = sym (p .before .is-usable .ensures .0) ∙ not-false _ (p .if1 .left) in
-    let t = told-so _ _ _ _ (o .end-command .result) (sym (c .before .before .before .before .before .before .put-state .ensures)) (c .before .before .tell .ensures) in
-    rw (e, ← m .mount-from .ensures) (ap (told _ _) (o .end-command .ensures) ∙ t)
+    let t = told-so _ _ _ _ _ (o .end-command .result) (c .before .before .before .before .before .before .before .before .put-state .ensures) (c .before .before .tell .ensures) in
+    rw (e, ← m .mount-from .ensures) (ap (told _ _ _) (o .end-command .ensures) ∙ t)
 
 pub end-command-spec : {M : Type 1} → statement M
 end-command-spec =
@@ -62,13 +71,15 @@ end-command-spec =
     (tie.spec
     is-usable-requires
     same-length
+    same-length-2
     returns
     mount-from-requires
     end-command-requires
     put-state-requires
     tell-requires
-    same-length-2
     same-length-3
     same-length-4
     same-length-5
+    same-length-6
+    same-length-7
     returns-2)

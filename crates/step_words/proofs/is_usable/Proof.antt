@@ -10,7 +10,9 @@ is-possible-requires c κs = search needs
 
 returns : tie.Need-returns
 unfolding usable
-returns c = (simp (c .is-possible .ensures .0), λ e. (c .is-possible .ensures .1 (and-left (c .is-possible .result) _ e), leb-true _ _ (and-right (c .is-possible .result) _ e)))
+returns c =
+    let p = c .is-possible in
+    (simp (p .ensures .0), λ e. (p .ensures .1 (and-left (p .result) _ e) .0, p .ensures .1 (and-left (p .result) _ e) .1, leb-true _ _ (and-right (p .result) _ e)))
 
 pub is-usable-spec : {M : Type 1} → statement M
 is-usable-spec = tie.close (tie.spec is-possible-requires returns)

@@ -93,6 +93,15 @@ mul-t-8 c = search needs
 slice-write-t-8 : tie.Need-slice-write-t-8
 slice-write-t-8 c = simp length-set (omega arith)
 
+add-t-8 : tie.Need-add-t-8
+add-t-8 c = search needs
+
+mul-t-9 : tie.Need-mul-t-9
+mul-t-9 c = search needs
+
+slice-write-t-9 : tie.Need-slice-write-t-9
+slice-write-t-9 c = simp length-set (omega arith)
+
 same-length : tie.Need-same-length
 same-length c = simp length-set
 
@@ -135,5 +144,8 @@ put-row-spec =
     add-t-7
     mul-t-8
     slice-write-t-8
+    add-t-8
+    mul-t-9
+    slice-write-t-9
     same-length
     returns)

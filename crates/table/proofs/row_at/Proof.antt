@@ -79,12 +79,21 @@ mul-slot-of-5 c = search needs
 shared-slice-read-slot-of-5 : tie.Need-shared-slice-read-slot-of-5
 shared-slice-read-slot-of-5 c = search needs
 
+add-slot-of-5 : tie.Need-add-slot-of-5
+add-slot-of-5 c = search needs
+
+mul-slot-of-6 : tie.Need-mul-slot-of-6
+mul-slot-of-6 c = search needs
+
+shared-slice-read-slot-of-6 : tie.Need-shared-slice-read-slot-of-6
+shared-slice-read-slot-of-6 c = search needs
+
 slot-of-requires : tie.Need-slot-of-requires
 slot-of-requires c κs = search needs
 
 returns : tie.Need-returns
 unfolding rowAt
-returns c = rw (add-zero, ← c .before .before .before .before .before .before .held-read .ensures) (c .slot-of .ensures)
+returns c = rw (add-zero, ← c .before .before .before .before .before .before .before .held-read .ensures) (c .slot-of .ensures)
 
 pub row-at-spec : {M : Type 1} → statement M
 row-at-spec =
@@ -115,5 +124,8 @@ row-at-spec =
     add-slot-of-4
     mul-slot-of-5
     shared-slice-read-slot-of-5
+    add-slot-of-5
+    mul-slot-of-6
+    shared-slice-read-slot-of-6
     slot-of-requires
     returns)

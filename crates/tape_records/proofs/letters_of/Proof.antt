@@ -44,6 +44,18 @@ enum-told-7 c = search needs
 pair-requires-7 : tie.Need-pair-requires-7
 pair-requires-7 c κs = search needs
 
+enum-told-8 : tie.Need-enum-told-8
+enum-told-8 c = search needs
+
+pair-requires-8 : tie.Need-pair-requires-8
+pair-requires-8 c κs = search needs
+
+enum-told-9 : tie.Need-enum-told-9
+enum-told-9 c = search needs
+
+pair-requires-9 : tie.Need-pair-requires-9
+pair-requires-9 c κs = search needs
+
 returns : tie.Need-returns
 returns c = rw (c .before .enum-told .given .1) (c .pair .ensures)
 
@@ -65,6 +77,12 @@ returns-6 c = rw (c .before .enum-told6 .given .1) (c .pair6 .ensures)
 returns-7 : tie.Need-returns-7
 returns-7 c = rw (c .before .enum-told7 .given .1) (c .pair7 .ensures)
 
+returns-8 : tie.Need-returns-8
+returns-8 c = rw (c .before .enum-told8 .given .1) (c .pair8 .ensures)
+
+returns-9 : tie.Need-returns-9
+returns-9 c = rw (c .before .enum-told9 .given .1) (c .pair9 .ensures)
+
 pub letters-of-spec : {M : Type 1} → statement M
 letters-of-spec =
     tie.close
@@ -83,10 +101,16 @@ letters-of-spec =
     pair-requires-6
     enum-told-7
     pair-requires-7
+    enum-told-8
+    pair-requires-8
+    enum-told-9
+    pair-requires-9
     returns
     returns-2
     returns-3
     returns-4
     returns-5
     returns-6
-    returns-7)
+    returns-7
+    returns-8
+    returns-9)

@@ -12,8 +12,8 @@ mount-place-requires c κs = search needs
 add-from : tie.Need-add-from
 add-from c = search needs
 
-run-place-requires : tie.Need-run-place-requires
-run-place-requires c κs = search needs
+limits-place-requires : tie.Need-limits-place-requires
+limits-place-requires c κs = search needs
 
 sub-result : tie.Need-sub-result
 sub-result c = search needs
@@ -25,7 +25,7 @@ part-result-end : tie.Need-part-result-end
 part-result-end c = search needs
 
 returns : tie.Need-returns
-returns c = let size : c .before .run-place .result - (c .before .before .mount-place .result + mountBytes) ≡ optionsLength (c .before .before .before .before .args .b .now) = omega (arith, c .before .before .mount-place .ensures .0, c .before .run-place .ensures) in
+returns c = let size : c .before .limits-place .result - (c .before .before .mount-place .result + mountBytes) ≡ optionsLength (c .before .before .before .before .args .b .now) = omega (arith, c .before .before .mount-place .ensures .0, c .before .limits-place .ensures .0) in
     rw (size, c .before .before .mount-place .ensures .0)
 
 pub option-bytes-spec : {M : Type 1} → statement M
@@ -34,7 +34,7 @@ option-bytes-spec =
     (tie.spec
     mount-place-requires
     add-from
-    run-place-requires
+    limits-place-requires
     sub-result
     part-result-start
     part-result-end

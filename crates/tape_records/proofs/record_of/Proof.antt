@@ -44,17 +44,29 @@ on-file-at-requires-4 c κs = rw (c .enum-told4 .given .1) at (c .before .before
 enum-told-5 : tie.Need-enum-told-5
 enum-told-5 c = search needs
 
-end-at-requires : tie.Need-end-at-requires
-end-at-requires c κs = rw (c .enum-told5 .given .1) at (c .before .before .before .pre)
+on-file-at-requires-5 : tie.Need-on-file-at-requires-5
+on-file-at-requires-5 c κs = rw (c .enum-told5 .given .1) at (c .before .before .before .pre)
 
 enum-told-6 : tie.Need-enum-told-6
 enum-told-6 c = search needs
 
-end-at-requires-2 : tie.Need-end-at-requires-2
-end-at-requires-2 c κs = rw (c .enum-told6 .given .1) at (c .before .before .before .pre)
+on-file-at-requires-6 : tie.Need-on-file-at-requires-6
+on-file-at-requires-6 c κs = rw (c .enum-told6 .given .1) at (c .before .before .before .pre)
 
 enum-told-7 : tie.Need-enum-told-7
 enum-told-7 c = search needs
+
+end-at-requires : tie.Need-end-at-requires
+end-at-requires c κs = rw (c .enum-told7 .given .1) at (c .before .before .before .pre)
+
+enum-told-8 : tie.Need-enum-told-8
+enum-told-8 c = search needs
+
+end-at-requires-2 : tie.Need-end-at-requires-2
+end-at-requires-2 c κs = rw (c .enum-told8 .given .1) at (c .before .before .before .pre)
+
+enum-told-9 : tie.Need-enum-told-9
+enum-told-9 c = search needs
 
 returns : tie.Need-returns
 returns c = (rw (c .before .before .before .enum-told .given .1, ← c .before .length-at .ensures, ← c .before .before .offset-at .ensures) (c .on-file-at .ensures .0), c .on-file-at .ensures .1)
@@ -69,13 +81,19 @@ returns-4 : tie.Need-returns-4
 returns-4 c = (rw (c .before .enum-told4 .given .1) (c .on-file-at4 .ensures .0), c .on-file-at4 .ensures .1)
 
 returns-5 : tie.Need-returns-5
-returns-5 c = (rw (c .before .enum-told5 .given .1) (c .end-at .ensures .0), c .end-at .ensures .1)
+returns-5 c = (rw (c .before .enum-told5 .given .1) (c .on-file-at5 .ensures .0), c .on-file-at5 .ensures .1)
 
 returns-6 : tie.Need-returns-6
-returns-6 c = (rw (c .before .enum-told6 .given .1) (c .end-at2 .ensures .0), c .end-at2 .ensures .1)
+returns-6 c = (rw (c .before .enum-told6 .given .1) (c .on-file-at6 .ensures .0), c .on-file-at6 .ensures .1)
 
 returns-7 : tie.Need-returns-7
-returns-7 c = search needs
+returns-7 c = (rw (c .before .enum-told7 .given .1) (c .end-at .ensures .0), c .end-at .ensures .1)
+
+returns-8 : tie.Need-returns-8
+returns-8 c = (rw (c .before .enum-told8 .given .1) (c .end-at2 .ensures .0), c .end-at2 .ensures .1)
+
+returns-9 : tie.Need-returns-9
+returns-9 c = search needs
 
 pub record-of-spec : {M : Type 1} → statement M
 record-of-spec =
@@ -95,14 +113,20 @@ record-of-spec =
     enum-told-4
     on-file-at-requires-4
     enum-told-5
-    end-at-requires
+    on-file-at-requires-5
     enum-told-6
-    end-at-requires-2
+    on-file-at-requires-6
     enum-told-7
+    end-at-requires
+    enum-told-8
+    end-at-requires-2
+    enum-told-9
     returns
     returns-2
     returns-3
     returns-4
     returns-5
     returns-6
-    returns-7)
+    returns-7
+    returns-8
+    returns-9)

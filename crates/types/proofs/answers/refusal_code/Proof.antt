@@ -149,6 +149,30 @@ enum-told-20 c = search needs
 plain-requires-20 : tie.Need-plain-requires-20
 plain-requires-20 c κs = search needs
 
+enum-told-21 : tie.Need-enum-told-21
+enum-told-21 c = search needs
+
+plain-requires-21 : tie.Need-plain-requires-21
+plain-requires-21 c κs = search needs
+
+enum-told-22 : tie.Need-enum-told-22
+enum-told-22 c = search needs
+
+plain-requires-22 : tie.Need-plain-requires-22
+plain-requires-22 c κs = search needs
+
+enum-told-23 : tie.Need-enum-told-23
+enum-told-23 c = search needs
+
+plain-requires-23 : tie.Need-plain-requires-23
+plain-requires-23 c κs = search needs
+
+enum-told-24 : tie.Need-enum-told-24
+enum-told-24 c = search needs
+
+plain-requires-24 : tie.Need-plain-requires-24
+plain-requires-24 c κs = search needs
+
 returns : tie.Need-returns
 returns c = rw (c .before .enum-told .given .1) (c .plain .ensures)
 
@@ -218,6 +242,18 @@ returns-22 c = rw (c .before .enum-told19 .given .1) (c .plain19 .ensures)
 returns-23 : tie.Need-returns-23
 returns-23 c = rw (c .before .enum-told20 .given .1) (c .plain20 .ensures)
 
+returns-24 : tie.Need-returns-24
+returns-24 c = rw (c .before .enum-told21 .given .1) (c .plain21 .ensures)
+
+returns-25 : tie.Need-returns-25
+returns-25 c = rw (c .before .enum-told22 .given .1) (c .plain22 .ensures)
+
+returns-26 : tie.Need-returns-26
+returns-26 c = rw (c .before .enum-told23 .given .1) (c .plain23 .ensures)
+
+returns-27 : tie.Need-returns-27
+returns-27 c = rw (c .before .enum-told24 .given .1) (c .plain24 .ensures)
+
 pub refusal-code-spec : {M : Type 1} → statement M
 refusal-code-spec =
     tie.close
@@ -271,6 +307,14 @@ refusal-code-spec =
     plain-requires-19
     enum-told-20
     plain-requires-20
+    enum-told-21
+    plain-requires-21
+    enum-told-22
+    plain-requires-22
+    enum-told-23
+    plain-requires-23
+    enum-told-24
+    plain-requires-24
     returns
     returns-2
     returns-3
@@ -293,4 +337,8 @@ refusal-code-spec =
     returns-20
     returns-21
     returns-22
-    returns-23)
+    returns-23
+    returns-24
+    returns-25
+    returns-26
+    returns-27)

@@ -1,0 +1,5 @@
+pub mod Laws
+pub mod Plain
+pub mod Says
+pub mod Thin
+pub mod ThinBytes
