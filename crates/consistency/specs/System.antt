@@ -60,8 +60,8 @@ outstandingBy s kind n = cond (isKind kind) (outstandingOn s (kindFrom kind) n) 
 -- ---- what can happen
 
 -- "a read, write, truncate or flush with any arguments", 02: "with opens and closes among its calls"; "a mishap; the disk doing an outstanding
--- command, with its completion; a completion with nothing outstanding". All but a mishap name a file, by a kind's number and a number: the one that is called, whose command is done, or
--- that has nothing outstanding. A doing has the bytes that a failure carries, and the flag "capacity given".
+-- command, with its completion; a completion with nothing outstanding". All but a mishap name a file, by a kind's number and a number: the one
+-- that is called, whose command is done, or that has nothing outstanding. A doing has the bytes that a failure carries, and the flag "capacity given".
 pub data Event : Type 0 where
   call : (kind number : ℕ) → Call → Event
   mishap : (zone : ℕ) → Mishap → Event

@@ -1,5 +1,6 @@
 // What a call answers on its row, past the checks that all calls share. The option `explicit-open`, block, kind, row and call decide; the mount's
-// read-only mark is looked at once, where a call is dispatched, and its account once, after that. A call's checks are computed and folded, and its answer is made where they are passed.
+// read-only mark is looked at once, where a call is dispatched, and its account once, after that. A call's checks are computed and folded, and its
+// answer is made where they are passed.
 ghost use mathlib.Core.Path.{_≡_};
 ghost use mathlib.Core.Bool.{true, false};
 ghost use Prim.Native.Nat.{_+_, _-_, _/_, _^_, _≤_};

@@ -1,5 +1,5 @@
--- Inputs about different files commute, where neither marks the mount read-only and the account is true and not read: each is answered as if the other
--- hadn't come, and the state after both is the same in either order.
+-- Inputs about different files commute, where neither marks the mount read-only, the account is true, and none is answered 10, 11 or 12: each is
+-- answered as if the other hadn't come, and the state after both is the same in either order.
 use mathlib.Core.Path.{_≡_}
 use Rattle.engine.specs.Engine.{State, Input, step}
 use Rattle.engine.specs.Frame.{kindIn, numberIn}

@@ -12,7 +12,8 @@ use crate::player::types::{Access, Account, FileKind, Operation, Refusal, Row, V
 /// So many cases are counted.
 pub const CASES: usize = 32;
 /// What they are, in the order of `Case`. Those from the cnv files' on say what option they are of; those before are of
-/// sequential files with `explicit-open`, but for 13 of a close, 14, and the losses, which come without it too.
+/// sequential files with `explicit-open`, but for 13 of a close, 14, a close on a read-only mount, and the losses,
+/// which come without it too.
 pub const CASE_NAMES: [&str; CASES] = [
     "a first open commanded",
     "a further open answered",
