@@ -27,7 +27,8 @@ usage:
   reference compare-files PLAYER FILE...       compares PLAYER on the given tapes
   reference checksum [--binary]                prints a checksum for each input on standard input
   reference checksum-inputs [--binary] SEED COUNT
-                                               prints COUNT inputs for checksum
+                                               prints COUNT inputs for checksum; the first 290 have 0 to 272
+                                               and 4088 to 4104 bytes, in this order, the others 0 to 5000
   reference --help                             shows this
 
 PLAYER is a program that takes a tape's file name as its only argument and prints the lines.

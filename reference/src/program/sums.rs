@@ -1,34 +1,49 @@
 //! Inputs for the checksum, and their checksums, as text or as bytes.
 
+use std::ops::RangeInclusive;
+
 use crate::generator::random::Random;
 use crate::player::checksum::checksum;
 
-/// Lengths that every list begins with: nothing, the first few, and a whole super block.
-const FIRST_LENGTHS: [u64; 8] = [0, 1, 2, 3, 4, 8, 255, 4096];
+/// Lengths that every list begins with, so that none is left to chance: a program that takes eight bytes at a
+/// time can go wrong with those after the last eight, or at a length from which on it takes them another way.
+const SHORT_LENGTHS: RangeInclusive<u64> = 0..=272;
+/// Lengths that come next, around a super block's 4,096: long inputs have every length modulo eight too.
+const LONG_LENGTHS: RangeInclusive<u64> = 4_088..=4_104;
 
-/// Inputs of 0 to 5,000 bytes, most of them short.
+/// Inputs of 0 to 5,000 bytes, most of them short; the first have the lengths above, in order.
 pub fn inputs(seed: u64, count: u64) -> Vec<Vec<u8>> {
-    (0..count).map(|index| input(seed, index)).collect()
+    let mut first_lengths = SHORT_LENGTHS.chain(LONG_LENGTHS);
+    let input = |index| {
+        let mut random = Random::new(seed, index);
+        match first_lengths.next() {
+            Some(length) => random_bytes(&mut random, length),
+            None => any_bytes(&mut random),
+        }
+    };
+    (0..count).map(input).collect()
 }
 
-fn input(seed: u64, index: u64) -> Vec<u8> {
-    let mut random = Random::new(seed, index);
-    let length = match FIRST_LENGTHS.get(index as usize) {
-        Some(&length) => length,
-        None => match random.weighted(&[50, 30, 17, 3]) {
-            0 => random.below(17),
-            1 => random.below(257),
-            2 => random.below(1025),
-            _ => random.below(5001),
-        },
+fn random_bytes(random: &mut Random, length: u64) -> Vec<u8> {
+    let mut bytes = vec![0; length as usize];
+    random.fill(&mut bytes);
+    bytes
+}
+
+fn any_bytes(random: &mut Random) -> Vec<u8> {
+    let length = match random.weighted(&[50, 30, 17, 3]) {
+        0 => random.below(17),
+        1 => random.below(257),
+        2 => random.below(1025),
+        _ => random.below(5001),
     };
     let mut bytes = vec![0; length as usize];
     match random.weighted(&[60, 10, 10, 20]) {
         0 => random.fill(&mut bytes),
         1 => {}
         2 => bytes.fill(0xFF),
-        // A single bit shows one remainder alone.
-        _ if length > 0 => bytes[random.below(length) as usize] = 1 << random.below(8),
+        // A single byte shows one remainder alone, of the table for its place if there are several.
+        _ if length > 0 => bytes[random.below(length) as usize] = random.between(1, 255) as u8,
         _ => {}
     }
     bytes

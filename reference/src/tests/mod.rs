@@ -18,6 +18,7 @@ mod perms;
 mod pointers;
 mod reasons;
 mod sheet;
+mod sums;
 mod tape;
 mod truthful;
 

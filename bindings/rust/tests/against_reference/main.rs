@@ -219,12 +219,18 @@ fn blocks_above_sixteen_bits_are_refused() {
     }
 }
 
+/// The library takes eight bytes at a time: inputs begin at any place of the first eight in memory, some are long.
 #[test]
 fn checksums_are_the_same() {
     for index in 0..20_000 {
         let mut random = Random::new(8, index);
-        let mut bytes = vec![0; random.below(300) as usize];
-        random.fill(&mut bytes);
-        assert_eq!(zonefs::checksum(&bytes), reference::player::checksum::checksum(&bytes));
+        let begin = random.below(8) as usize;
+        let most = if random.percent(3) { 5_000 } else { 299 };
+        let length = random.between(0, most) as usize;
+        let mut memory = vec![0; begin + length];
+        random.fill(&mut memory);
+        let bytes = &memory[begin..];
+        let expected = reference::player::checksum::checksum(bytes);
+        assert_eq!(zonefs::checksum(bytes), expected, "{length} bytes from place {begin}");
     }
 }
