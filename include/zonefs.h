@@ -30,6 +30,9 @@
  * memory holds: each function answers for every content, and reads or writes nothing outside the slices. One thread at a time may use
  * one mount's memory.
  *
+ * On the stack zonefs_mount, zonefs_format, zonefs_super_fields and zonefs_checksum take some 10 kB, of which 8 KiB are the checksum's tables; the
+ * others take less than 1 kB.
+ *
  * Each function but zonefs_checksum returns one of the numbers below. Where a slice for mount words, account words or answer words is too short,
  * one for a uuid, or to read a label into, has another length than it should have, the mount words that are read hold no mount value, or an account
  * word that is read is above 0xFFFFFFFF, the number is ZONEFS_IMPOSSIBLE and nothing is written. Otherwise the answer words are written, also with a

@@ -215,23 +215,35 @@ fn line(what: &str, library: f64, other: f64, target: &str) {
     println!("{what:<66} {library:>10.0} ns {other:>10.0} ns   pace {:>5.2}{target}", other / library);
 }
 
-fn checksums() -> (f64, f64) {
-    const TURNS: u64 = 2_000;
-    let block: Vec<u8> = (0..4096_u32).map(|i| (i.wrapping_mul(2_654_435_761) >> 24) as u8).collect();
-    assert_eq!(words::checksum(&block), bytewise(&block));
-    assert_eq!(words::checksum(&block), reference::player::checksum::checksum(&block));
+/// The time of a checksum of so many bytes: the library's, that of a table a byte at a time, and that of one bit at a time.
+fn checksum_times(length: usize) -> [f64; 3] {
+    let turns = 8_000_000 / (length as u64 + 100);
+    let bytes: Vec<u8> = (0..length as u32).map(|i| (i.wrapping_mul(2_654_435_761) >> 24) as u8).collect();
+    assert_eq!(words::checksum(&bytes), bytewise(&bytes));
+    assert_eq!(words::checksum(&bytes), reference::player::checksum::checksum(&bytes));
     let sum_by = |sum: fn(&[u8]) -> u32| {
-        time(TURNS, |_| {
-            black_box(sum(black_box(&block)));
+        time(turns, |_| {
+            black_box(sum(black_box(&bytes)));
         })
     };
     let mut library = || sum_by(words::checksum);
     let mut table = || sum_by(bytewise);
     let mut bits = || sum_by(reference::player::checksum::checksum);
-    let times = medians(TURNS, &mut [&mut library, &mut table, &mut bits]);
-    line("checksum of 4,096 bytes, beside a table, a byte at a time", times[0], times[1], "   (target 0.90)");
-    line("checksum of 4,096 bytes, beside one bit at a time", times[0], times[2], "");
-    (times[0], times[2])
+    let times = medians(turns, &mut [&mut library, &mut table, &mut bits]);
+    [times[0], times[1], times[2]]
+}
+
+/// Of few bytes, of the fewest that the library takes eight at a time, and of a super block's, whose times are handed on.
+fn checksums() -> (f64, f64) {
+    for length in [16, 127, 128] {
+        let what = format!("checksum of {length} bytes, beside a table, a byte at a time");
+        let [library, table, _] = checksum_times(length);
+        line(&what, library, table, "");
+    }
+    let [library, table, bits] = checksum_times(4096);
+    line("checksum of 4,096 bytes, beside a table, a byte at a time", library, table, "   (target 2.00)");
+    line("checksum of 4,096 bytes, beside one bit at a time", library, bits, "");
+    (library, bits)
 }
 
 fn mounts(input: &Input, checksum: (f64, f64)) {
@@ -250,6 +262,9 @@ fn mounts(input: &Input, checksum: (f64, f64)) {
     line("mount of 1,023 zones, beside the reference", times[0], times[1], "   (target 0.80)");
     let (library, other) = (times[0] - checksum.0, times[1] - checksum.1);
     line("the same less each one's checksum", library, other, "");
+    let share = |part: f64, whole: f64| 100.0 * part / whole;
+    let (library, other) = (share(checksum.0, times[0]), share(checksum.1, times[1]));
+    println!("{:<66} {library:>10.0} %  {other:>10.0} %", "the checksum's share of that mount");
 }
 
 /// A super block in full use, made over other bytes, on a disk whose zone 0 is the volume's.

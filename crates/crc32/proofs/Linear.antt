@@ -25,7 +25,7 @@ step-xor a b =
     ∙ ap (bitXor (bitXor (a / 2) (b / 2))) (taps (lowest a) (lowest b))
     ∙ xor-swap (a / 2) (b / 2) (a % 2 * poly) (b % 2 * poly)
 
-steps-xor : (n a b : ℕ) → crcSteps n (bitXor a b) ≡ bitXor (crcSteps n a) (crcSteps n b)
+pub steps-xor : (n a b : ℕ) → crcSteps n (bitXor a b) ≡ bitXor (crcSteps n a) (crcSteps n b)
 unfolding crcSteps
 steps-xor zero a b = refl
 steps-xor (suc n) a b = ap (crcSteps n) (step-xor a b) ∙ steps-xor n (crcStep a) (crcStep b)
@@ -38,12 +38,12 @@ step-even a =
     let even : a * 2 % 2 ≡ 0 = omega arith in
     ap₂ (λ (h o : ℕ). bitXor h (o * poly)) half even ∙ xor-zero-r a
 
-steps-high : (n a : ℕ) → crcSteps n (a * 2 ^ n) ≡ a
+pub steps-high : (n a : ℕ) → crcSteps n (a * 2 ^ n) ≡ a
 unfolding crcSteps
 steps-high zero a = omega arith
 steps-high (suc n) a = rw (pow-suc, ← mul-assoc, step-even) (steps-high n a)
 
-low-byte : (v : ℕ) → crcSteps 8 v ≡ bitXor (v / 256) (crcSteps 8 (v % 256))
+pub low-byte : (v : ℕ) → crcSteps 8 v ≡ bitXor (v / 256) (crcSteps 8 (v % 256))
 low-byte v =
     ap (crcSteps 8) (sym (split v 8) ∙ sym (xor-shifted (v / 256) 8 (v % 256) (mod-lt v (pow-pos 8))))
     ∙ steps-xor 8 (v / 256 * 2 ^ 8) (v % 256)

@@ -39,3 +39,9 @@ superblockCrc b = crc32 (take 4 b ++ (0 ∷ 0 ∷ 0 ∷ 0 ∷ []) ++ drop 8 b)
 -- "a table of 256 remainders, each shown to follow the one-bit rule": the entry of each byte is that byte after eight bits
 pub record Ruled (table : List ℕ) : Type 0 where
   pub entry : (k : ℕ) → k < 256 → getD table k 0 ≡ crcSteps 8 k
+
+-- "eight tables of 256, each table's rule shown once over the table number": the first is as above, and each entry of table t + 1 is that of table t
+-- after a zero byte more
+pub record AllRuled (tables : List (List ℕ)) : Type 0 where
+  pub first : Ruled (getD tables 0 [])
+  pub next : (t k : ℕ) → t < 7 → k < 256 → getD (getD tables (suc t) []) k 0 ≡ crcByte (getD (getD tables t []) k 0) 0
