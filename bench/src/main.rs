@@ -233,7 +233,8 @@ fn checksum_times(length: usize) -> [f64; 3] {
     [times[0], times[1], times[2]]
 }
 
-/// Of few bytes, of the fewest that the library takes eight at a time, and of a super block's, whose times are handed on.
+/// Of few bytes, of the most that the library takes one at a time, of the fewest that it takes eight at a time, and of a super block's, whose
+/// times are handed on.
 fn checksums() -> (f64, f64) {
     for length in [16, 127, 128] {
         let what = format!("checksum of {length} bytes, beside a table, a byte at a time");

@@ -11,7 +11,7 @@ use lib.ListN.{length, getD}
 use Rattle.crc32.specs.Crc.{Ruled, AllRuled, crcSteps, crcByte}
 use Rattle.crc32.proofs.Linear.{by-table}
 
--- the test of a table: each entry is what f asks for at its place, counted from i
+-- the test of a table: the entry at each place, counted from i, is f of that place
 abbrev pub passes : (ℕ → ℕ) → ℕ → List ℕ → Bool
 passes f i [] = true
 passes f i (x ∷ xs) = eqb x (f i) && passes f (suc i) xs
@@ -30,7 +30,7 @@ entry f (x ∷ xs) i p (suc k) h =
 at : (f : ℕ → ℕ) (table : List ℕ) → length table ≡ 256 → T (passes f 0 table) → (k : ℕ) → k < 256 → getD table k 0 ≡ f k
 at f table whole p k h = entry f table 0 p k (rw whole h) ∙ ap f (zero-add k)
 
--- of the first table the one-bit rule asks
+-- of the first table f is eight one-bit steps
 pub ruled : (table : List ℕ) → length table ≡ 256 → T (passes (crcSteps 8) 0 table) → Ruled table
 ruled table whole p = record { entry = at (crcSteps 8) table whole p }
 
@@ -42,7 +42,7 @@ zero-more : (first : List ℕ) → Ruled first → (v : ℕ) → zeroMore first 
 zero-more first rule v =
     ap (λ (k : ℕ). bitXor (v / 256) (getD first (k % 256) 0)) (sym (xor-zero-r v)) ∙ by-table first v 0 rule (zero-lt-suc 255)
 
--- the test of the tables after x: of each, the one before it asks for its own entries, a zero byte more
+-- the test of the tables after x: each entry is that of the table before it after a zero byte more
 abbrev pub chained : List ℕ → List ℕ → List (List ℕ) → Bool
 chained first x [] = true
 chained first x (y ∷ ys) = eqb (length y) 256 && (passes (λ k. zeroMore first (getD x k 0)) 0 y && chained first y ys)

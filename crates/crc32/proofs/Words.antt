@@ -1,5 +1,4 @@
--- Bytes xored in all at once, before the steps between them: a number of eight bytes is then eight zero bytes, and those of each of its bytes are
--- an entry of a table.
+-- Bytes may be xored into the register all at once, before as many zero bytes. What the zero bytes make of each of them is an entry of a table.
 use mathlib.Core.Path.{_≡_, refl, ap, ap₂, _∙_, sym}
 use mathlib.Core.List.{List, []}
 use Prim.Native.Nat.{ℕ, zero, suc, _+_, _-_, _*_, _/_, _%_, _^_, _<_}
@@ -60,7 +59,7 @@ module _ (tables : List (List ℕ)) (rule : AllRuled tables) where
       let before = every-entry t k (omega arith) hk in
       rule .next t k (omega arith) hk ∙ ap (crcSteps 8) (xor-zero-r (getD (getD tables t []) k 0) ∙ before) ∙ zeros-last (suc t) k
 
-  -- zero bytes of a number: those of its upper part, one less, and an entry for its low byte
+  -- zero bytes after a number: one fewer after its upper part, and an entry for its low byte
   by-entry : (t v : ℕ) → t < 8 → bitXor (zeros t (v / 256)) (getD (getD tables t []) (v % 256) 0) ≡ zeros (suc t) v
   unfolding zeros
   by-entry t v h =

@@ -1,4 +1,4 @@
--- The checksum, bit by bit, and the rule of its table: "reflected CRC-32, polynomial 0xEDB88320, start all ones, NO final inversion, over
+-- The checksum, bit by bit, and the rules of its tables: "reflected CRC-32, polynomial 0xEDB88320, start all ones, NO final inversion, over
 -- all 4,096 bytes with the checksum field taken as zero".
 use mathlib.Core.Path.{_≡_}
 use mathlib.Core.List.{List, [], _∷_, _++_}

@@ -17,18 +17,17 @@ const FIELD_AT: usize = 4;
 
 const FIELD_END: usize = 8;
 
-// From so many bytes on they go eight at a time. For fewer, laying out eight tables takes longer than it saves.
+// From so many bytes on they go eight at a time. For few, laying out eight tables takes longer than it saves (`docs/DECISIONS.md`).
 const MANY: usize = 128;
 
-// The first table. Here alone it is shown to obey its rule. Whoever needs it lends it on, so that it is laid out once for a checksum and not
-// again for each byte.
+// The first table alone, with its rule. Whoever needs it lends it on, so that it is not laid out again for each byte.
 fn remainders() -> [u32; 256]
     ensures { λ r. ⌜ Ruled r ⌝ }
 {
     FIRST
 }
 
-// All eight tables, which are shown to obey theirs here alone.
+// All eight tables, with theirs.
 fn all_remainders() -> [[u32; 256]; 8]
     ensures { λ r. ⌜ AllRuled r ⌝ }
 {
@@ -86,7 +85,7 @@ fn carry_eights(tables: &[[u32; 256]; 8], crc: u32, b: &[u8]) -> u32
     carry(&tables[0], sum, after(b, i))
 }
 
-// The register `crc` after many bytes.
+// The register `crc` after the bytes of `b`, of which there are many. It is a function of its own, so that few bytes don't reserve room for eight tables.
 fn carry_many(crc: u32, b: &[u8]) -> u32
     ensures { λ r. ⌜ r ≡ crcFrom crc (now (b .entry)) ⌝ }
 {

@@ -2074,4 +2074,5 @@ const EIGHTH: [u32; 256] = [
     0x264b06e6,
 ];
 
+// Table t, counted from 0, is for a byte that has t bytes after it.
 pub const EIGHT: [[u32; 256]; 8] = [FIRST, SECOND, THIRD, FOURTH, FIFTH, SIXTH, SEVENTH, EIGHTH];

@@ -42,7 +42,7 @@ fn any_bytes(random: &mut Random) -> Vec<u8> {
         0 => random.fill(&mut bytes),
         1 => {}
         2 => bytes.fill(0xFF),
-        // A single byte shows one remainder alone, of the table for its place if there are several.
+        // A single byte: from the result for zeros alone this one differs by one remainder, carried on.
         _ if length > 0 => bytes[random.below(length) as usize] = random.between(1, 255) as u8,
         _ => {}
     }

@@ -219,7 +219,7 @@ fn blocks_above_sixteen_bits_are_refused() {
     }
 }
 
-/// The library takes eight bytes at a time: inputs begin at any place of the first eight in memory, some are long.
+/// The library takes eight bytes at a time: so inputs begin at every address modulo eight, and some are long.
 #[test]
 fn checksums_are_the_same() {
     for index in 0..20_000 {

@@ -4,7 +4,7 @@ use mathlib.Core.Path.{refl}
 use Rattle.crc32.proofs.all_remainders.Statement.{statement}
 use Rattle.crc32.proofs.all_remainders.Tie as tie
 
--- the test of the tables, computed here
+-- the test of all tables, computed here
 returns : tie.Need-returns
 unfolding crcSteps crcStep
 returns c = all-ruled _ refl refl tt
