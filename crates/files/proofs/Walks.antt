@@ -113,7 +113,7 @@ flag-small true = omega arith
 flag-small false = omega arith
 
 pub bounded-begun : BoundedWalk begun
-bounded-begun = record { number = omega arith; run = omega arith; cnvs = omega arith; seqs = omega arith }
+bounded-begun = record { number = omega arith; expected = omega arith; run = omega arith; cnvs = omega arith; seqs = omega arith }
 
 -- a run grows by a zone's capacity at most
 run-grows : (first plain joins : Bool) (s t u v : Run) (k : ℕ) → s .capacity ≤ k → t .capacity ≤ k → u .capacity ≤ k → v .capacity ≤ k
@@ -123,16 +123,19 @@ run-grows false true true s t u v k hs ht hu hv = ht
 run-grows false true false s t u v k hs ht hu hv = hu
 run-grows false false joins s t u v k hs ht hu hv = hv
 
-run-bounded : (aggregate : Bool) (w : Walk) (z : Zone) → z .capacity ≤ 2 ^ 40 → stepped aggregate w z .run .capacity ≤ w .run .capacity + 2 ^ 40
+run-bounded : (aggregate : Bool) (w : Walk) (z : Zone) → stepped aggregate w z .run .capacity ≤ w .run .capacity + z .capacity
 unfolding stepped nextRun
-run-bounded aggregate w z h =
-    run-grows (atZone0 w) (conventional z) (aggregate && w .run .active) _ _ _ _ (w .run .capacity + 2 ^ 40) (omega arith) (omega arith) (omega arith) (omega arith)
+run-bounded aggregate w z =
+    run-grows (atZone0 w) (conventional z) (aggregate && w .run .active) _ _ _ _ (w .run .capacity + z .capacity) (omega arith) (omega arith) (omega arith) (omega arith)
 
-pub bounded-step : (aggregate : Bool) (w : Walk) (z : Zone) → BoundedWalk w → Bounded z → w .number < mostZones → BoundedWalk (stepped aggregate w z)
-bounded-step aggregate w z b s h =
+-- z starts where the last zone ended, so what the run gains is within what the walk has moved on
+pub bounded-step : (aggregate : Bool) (w : Walk) (z : Zone) → BoundedWalk w → z .start ≡ w .expected → Bounded z → w .number < mostZones
+    → BoundedWalk (stepped aggregate w z)
+bounded-step aggregate w z b e s h =
     record {
       number = omega (arith, step-number aggregate w z);
-      run = omega (arith, step-number aggregate w z, run-bounded aggregate w z (omega arith));
+      expected = omega (arith, step-expected aggregate w z, s .end);
+      run = omega (arith, step-expected aggregate w z, run-bounded aggregate w z, b .run, s .held);
       cnvs = omega (arith, step-number aggregate w z, step-cnvs aggregate w z, flag-small (runEnds aggregate (w .run) z));
       seqs = omega (arith, step-number aggregate w z, step-seqs aggregate w z, flag-small (isSeqFile w z));
     }

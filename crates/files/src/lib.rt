@@ -125,7 +125,7 @@ pub fn begin() -> Walk
 }
 
 // Zone 0 comes next. It is never a file.
-fn at_zone_0(walk: Walk) -> bool
+pub fn at_zone_0(walk: Walk) -> bool
     ensures { λ r. ⌜ r ≡ atZone0 walk ⌝ }
 {
     walk.number == 0

@@ -19,7 +19,7 @@ use Rattle.files.specs.declared.Walk.{Walk}
 use Rattle.files.specs.Files.{rowIf, seqRow, seqRows, cnvRows}
 use Rattle.files.specs.Walk.{begun, runEnds, rowOfRun, isSeqFile, stepped, cnvLeft, seqLeft}
 use Rattle.files.specs.Facts.{BoundedWalk}
-use Rattle.files.proofs.Walks.{step-number, step-cnvs, step-seqs, cnv-walk, seq-walk, if-count, bounded-begun, bounded-step}
+use Rattle.files.proofs.Walks.{step-number, step-expected, step-cnvs, step-seqs, cnv-walk, seq-walk, if-count, bounded-begun, bounded-step}
 use Rattle.report.specs.Report.{zoneCount, reportZone, zonesOf}
 use Rattle.report.proofs.Laws.{zones-next, zones-done}
 use Rattle.mount.specs.Fill.{fill}
@@ -76,7 +76,7 @@ module _ {t₀ t : List ℕ} {all : List Row} {i : ℕ} (y : Bool) (r : Row) (re
 pub record Writing (aggregate : Bool) (b cnv₀ seq₀ : List ℕ) (w : Walk) (cnv seq : List ℕ) : Type 0 where
   pub inside : w .number ≤ zoneCount b
   pub bounded : BoundedWalk w
-  pub zones : AllBounded (drop (w .number) (zonesOf b))
+  pub zones : AllBounded (w .expected) (drop (w .number) (zonesOf b))
   pub cnvs : Filling cnv₀ (cnvRows aggregate (fileZones b)) cnv (w .cnvs) (cnvLeft aggregate w (drop (w .number) (zonesOf b)))
   pub seqs : Filling seq₀ (seqRows (fileZones b)) seq (w .seqs) (seqLeft aggregate w (drop (w .number) (zonesOf b)))
 
@@ -101,8 +101,8 @@ module _ (aggregate : Bool) (b cnv₀ seq₀ : List ℕ) where
       abbrev after : List Zone
       after = drop (w .number + 1) (zonesOf b)
 
-      bounded-here : Bounded z × AllBounded after
-      bounded-here = bounded-next _ _ _ (zones-next b (w .number) z read here) (so .zones)
+      bounded-here : (z .start ≡ w .expected) × Bounded z × AllBounded (z .start + z .length) after
+      bounded-here = bounded-next _ _ _ _ (zones-next b (w .number) z read here) (so .zones)
 
       cnv-here : Filling cnv₀ (cnvRows aggregate (fileZones b)) cnv (w .cnvs) (rowIf (runEnds aggregate (w .run) z) (rowOfRun (w .run)) (cnvLeft aggregate next after))
       unfolding cnvLeft
@@ -114,7 +114,7 @@ module _ (aggregate : Bool) (b cnv₀ seq₀ : List ℕ) where
 
       -- what it takes to store the rows that z finishes
       pub writing-zone : Bounded z
-      writing-zone = bounded-here .0
+      writing-zone = bounded-here .1
 
       pub writing-cnv : w .cnvs + flagCode (runEnds aggregate (w .run) z) ≤ rowsLent (length cnv)
       writing-cnv = filling-room (runEnds aggregate (w .run) z) (rowOfRun (w .run)) (cnvLeft aggregate next after) cnv-here
@@ -131,8 +131,8 @@ module _ (aggregate : Bool) (b cnv₀ seq₀ : List ℕ) where
           let on : Writing aggregate b cnv₀ seq₀ next cnv′ seq′ =
           record {
             inside = omega arith;
-            bounded = bounded-step aggregate w z (so .bounded) writing-zone (omega arith);
-            zones = subst (λ (k : ℕ). AllBounded (drop k (zonesOf b))) (sym n) (bounded-here .1);
+            bounded = bounded-step aggregate w z (so .bounded) (bounded-here .0) writing-zone (omega arith);
+            zones = rw (n, step-expected aggregate w z) (bounded-here .2);
             cnvs = subst (λ (k : ℕ). Filling cnv₀ (cnvRows aggregate (fileZones b)) cnv′ (next .cnvs) (cnvLeft aggregate next (drop k (zonesOf b)))) (sym n)
                 (filling-put (runEnds aggregate (w .run) z) (rowOfRun (w .run)) (cnvLeft aggregate next after) cnv-here p (step-cnvs aggregate w z));
             seqs = subst (λ (k : ℕ). Filling seq₀ (seqRows (fileZones b)) seq′ (next .seqs) (seqLeft aggregate next (drop k (zonesOf b)))) (sym n)

@@ -12,6 +12,6 @@ use Rattle.mount.specs.Mount.{fileZones}
 -- the rows of a report's files can be stored in tables with so many rows
 pub record Fits (aggregate : Bool) (b : List ℕ) (cnvRoom seqRoom : ℕ) : Type 0 where
   pub frame : Framed b
-  pub bounded : AllBounded (zonesOf b)
+  pub bounded : AllBounded 0 (zonesOf b)
   pub cnvs : length (cnvRows aggregate (fileZones b)) ≤ cnvRoom
   pub seqs : length (seqRows (fileZones b)) ≤ seqRoom

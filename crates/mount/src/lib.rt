@@ -39,7 +39,7 @@ fn bad_options(parsed: Options) -> bool
 }
 
 // The checks 20 to 27, with what was found of the super block.
-fn opening_check(block: u64, found: Verdict, parsed: Options) -> Verdict
+pub fn opening_check(block: u64, found: Verdict, parsed: Options) -> Verdict
     ensures { λ r. ⌜ r ≡ openingCheck block found parsed ⌝ }
 {
     let options = refuse(bad_options(parsed), Refusal::BadOptions, Verdict::Passed);
@@ -48,7 +48,7 @@ fn opening_check(block: u64, found: Verdict, parsed: Options) -> Verdict
 }
 
 // The refusal, or the numbers of files.
-fn answer_for(found: Verdict, cnvs: u32, seqs: u32) -> MountAnswer
+pub fn answer_for(found: Verdict, cnvs: u32, seqs: u32) -> MountAnswer
     ensures { λ r. ⌜ r ≡ answerFor found cnvs seqs ⌝ }
 {
     match found {
@@ -165,7 +165,7 @@ fn explicit_of(parsed: Options) -> bool
 }
 
 // The account of a new mount: no file is open.
-fn account_of(active: u32, open_limit: u32, active_limit: u32) -> Account
+pub fn account_of(active: u32, open_limit: u32, active_limit: u32) -> Account
     ensures { λ r. ⌜ r ≡ accountOf active «open_limit» «active_limit» ⌝ }
 {
     Account {
@@ -177,7 +177,7 @@ fn account_of(active: u32, open_limit: u32, active_limit: u32) -> Account
 }
 
 // What a mount fixes, with so many files.
-fn volume_of(cnvs: u32, seqs: u32, block: u64, fields: SuperBlock, parsed: Options) -> Volume
+pub fn volume_of(cnvs: u32, seqs: u32, block: u64, fields: SuperBlock, parsed: Options) -> Volume
     ensures { λ r. ⌜ r ≡ volumeOf cnvs seqs block fields parsed ⌝ }
 {
     let policy = policy_of(parsed);

@@ -20,7 +20,7 @@ use Rattle.zones.specs.declared.Zone.{Zone}
 use Rattle.zones.specs.Zone.{zoneBytes, goodZone}
 use Rattle.zones.specs.Faults.{zoneFault}
 use Rattle.zones.specs.Facts.{AllBounded}
-use Rattle.zones.proofs.Laws.{zone-bounded}
+use Rattle.zones.proofs.Laws.{zone-told, zone-bounded}
 use Rattle.report.specs.Report.{headerBytes, zoneCount, goodHeader, reportZone, zonesFrom, zonesOf, zonesCheck, reportCheck}
 use Rattle.report.specs.Facts.{Framed}
 
@@ -85,10 +85,10 @@ unfoldable pub AllGood : ℕ → ℕ → List Zone → Type 0
 AllGood unit e [] = Unit
 AllGood unit e (z ∷ zs) = (goodZone unit e z ≡ true) × AllGood unit (z .start + z .length) zs
 
-pub all-bounded : (unit e : ℕ) (zs : List Zone) → AllGood unit e zs → AllBounded zs
+pub all-bounded : (unit e : ℕ) (zs : List Zone) → AllGood unit e zs → AllBounded e zs
 unfolding AllGood AllBounded
 all-bounded unit e [] h = tt
-all-bounded unit e (z ∷ zs) h = (zone-bounded unit e z (h .0), all-bounded unit (z .start + z .length) zs (h .1))
+all-bounded unit e (z ∷ zs) h = (zone-told unit e z (h .0) .0, zone-bounded unit e z (h .0), all-bounded unit (z .start + z .length) zs (h .1))
 
 -- the check finds nothing exactly where all are good
 zones-told : (unit n e : ℕ) (zs : List Zone) → zonesCheck unit n e zs ≡ Passed → AllGood unit e zs

@@ -13,7 +13,7 @@ use Rattle.types.specs.declared.ZoneFault.{ZoneFault}
 use Rattle.zones.specs.declared.Zone.{Zone}
 use Rattle.zones.specs.Zone.{goodZone}
 use Rattle.zones.specs.Faults.{zoneFault}
-use Rattle.zones.proofs.Laws.{zone-bounded}
+use Rattle.zones.proofs.Laws.{zone-told, zone-bounded}
 use Rattle.files.specs.declared.Walk.{Walk}
 use Rattle.files.specs.Walk.{begun, stepped, walked}
 use Rattle.files.specs.Facts.{BoundedWalk}
@@ -58,7 +58,7 @@ module _ (unit : ℕ) (aggregate : Bool) (b : List ℕ) where
           let on : Checking unit aggregate b (stepped aggregate w z) =
           record {
             inside = omega arith;
-            bounded = bounded-step aggregate w z (so .bounded) (zone-bounded unit (w .expected) z good) (omega arith);
+            bounded = bounded-step aggregate w z (so .bounded) (zone-told unit (w .expected) z good .0) (zone-bounded unit (w .expected) z good) (omega arith);
             check = rw (n, step-expected aggregate w z) (sym (check-good unit (w .number) (w .expected) z _ _ zs good) ∙ so .check);
             walk = ap (λ (k : ℕ). walked aggregate (stepped aggregate w z) (drop k (zonesOf b))) n ∙ ap (walked aggregate w) (sym zs) ∙ so .walk;
           } in

@@ -28,11 +28,14 @@ zoneCount b = le 4 b 8
 abbrev pub capacityGiven : List ℕ → Bool
 capacityGiven b = eqb (le 4 b 12) 1
 
--- "sector u64 (0), zone count u32 (1 to 1,023), flags u32 (bit 0: capacity given; others zero). The length is exactly 16 + 64 × count."
+-- "sector u64 (0), zone count u32 (1 to 1,023), flags u32 (bit 0: capacity given; others zero)", where 02 raises the most zones: "Raise the limit to
+-- 65,536 zones"
+abbrev pub goodFields : List ℕ → Bool
+goodFields b = eqb (le 8 b 0) 0 && leb 1 (zoneCount b) && leb (zoneCount b) mostZones && leb (le 4 b 12) 1
+
+-- "The length is exactly 16 + 64 × count."
 unfoldable pub goodHeader : List ℕ → Bool
-goodHeader b =
-    leb headerBytes (length b)
-    && (eqb (le 8 b 0) 0 && leb 1 (zoneCount b) && leb (zoneCount b) mostZones && leb (le 4 b 12) 1 && eqb (length b) (headerBytes + zoneBytes * zoneCount b))
+goodHeader b = leb headerBytes (length b) && (goodFields b && eqb (length b) (headerBytes + zoneBytes * zoneCount b))
 
 -- ---- its zones
 

@@ -7,7 +7,7 @@ ghost use lib.ListN.{length};
 ghost use Rattle.types.specs.declared.Verdict.the-variants.{Passed};
 ghost use Rattle.files.specs.Walk.{begun, walked};
 ghost use Rattle.files.specs.Facts.{BoundedWalk};
-ghost use Rattle.report.specs.Report.{headerBytes, zoneCount, capacityGiven, goodHeader, reportZone, zonesOf, zonesCheck, reportCheck};
+ghost use Rattle.report.specs.Report.{headerBytes, zoneCount, capacityGiven, goodFields, goodHeader, reportZone, zonesOf, zonesCheck, reportCheck};
 ghost use Rattle.report.specs.Facts.{Framed};
 use files::Walk;
 use types::Refusal;
@@ -48,11 +48,22 @@ pub fn zone_count(b: &[u8]) -> usize
 }
 
 // The report states each zone's capacity.
-fn capacity_given(b: &[u8]) -> bool
+pub fn capacity_given(b: &[u8]) -> bool
     requires { ⌜ headerBytes ≤ length (now b) ⌝ }
     ensures { λ r. ⌜ r ≡ capacityGiven (now (b .entry)) ⌝ }
 {
     wire::u32_at(b, FLAGS_AT) == CAPACITY_GIVEN
+}
+
+// The header's fields are right.
+pub fn good_fields(b: &[u8]) -> bool
+    requires { ⌜ headerBytes ≤ length (now b) ⌝ }
+    ensures { λ r. ⌜ r ≡ goodFields (now (b .entry)) ⌝ }
+{
+    let sector = wire::u64_at(b, SECTOR_AT);
+    let count = zone_count(b);
+    let flags = wire::u32_at(b, FLAGS_AT);
+    (sector == 0) & (1 <= count) & (count <= MOST_ZONES) & (flags <= CAPACITY_GIVEN)
 }
 
 // The report's header and its length are right.
@@ -60,14 +71,9 @@ fn good_header(b: &[u8]) -> bool
     ensures { λ r. ⌜ r ≡ goodHeader (now (b .entry)) ⌝ }
 {
     if HEADER_BYTES <= b.len() {
-        let sector = wire::u64_at(b, SECTOR_AT);
+        let good = good_fields(b);
         let count = wire::u32_at(b, COUNT_AT) as usize;
-        let flags = wire::u32_at(b, FLAGS_AT);
-        (sector == 0)
-            & (1 <= count)
-            & (count <= MOST_ZONES)
-            & (flags <= CAPACITY_GIVEN)
-            & (b.len() == HEADER_BYTES + ZONE_BYTES * count)
+        good & (b.len() == HEADER_BYTES + ZONE_BYTES * count)
     } else {
         false
     }

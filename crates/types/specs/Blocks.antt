@@ -31,10 +31,10 @@ wholeBlocks unit n = ltb 0 n && onBlock unit n
 abbrev pub endsInReach : ℕ → ℕ → Bool
 endsInReach start sectors = leb (start + sectors) (2 ^ 40)
 
--- "(1 to 1,023)": the most zones of a report
+-- "(1 to 1,023)", and 02: "Raise the limit to 65,536 zones": the most zones of a report
 abbrev pub mostZones : ℕ
-mostZones = 1023
+mostZones = 65536
 
--- "more files of either kind than .. 1,022": the most that there can be
+-- "more files of either kind than .. 1,022", and 02: "Files in 10 may now be up to 65,535": the most that there can be
 abbrev pub mostFiles : ℕ
-mostFiles = 1022
+mostFiles = 65535

@@ -17,10 +17,10 @@ const LARGE_BLOCK_SECTORS: u64 = 8;
 const LAST_SECTOR: u64 = 1099511627776;
 
 // The most zones of a report.
-pub const MOST_ZONES: usize = 1023;
+pub const MOST_ZONES: usize = 65536;
 
 // The most files of a kind.
-pub const MOST_FILES: u32 = 1022;
+pub const MOST_FILES: u32 = 65535;
 
 pub fn good_block(block: u64) -> bool
     ensures { λ r. ⌜ r ≡ goodBlock block ⌝ }

@@ -69,6 +69,6 @@ zone-told unit e z h =
 pub zone-bounded : (unit e : ℕ) (z : Zone) → goodZone unit e z ≡ true → Bounded z
 zone-bounded unit e z h = record-bounded unit z (zone-told unit e z h .1)
 
-pub bounded-next : (z : Zone) (zs l : List Zone) → l ≡ z ∷ zs → AllBounded l → Bounded z × AllBounded zs
+pub bounded-next : (e : ℕ) (z : Zone) (zs l : List Zone) → l ≡ z ∷ zs → AllBounded e l → (z .start ≡ e) × Bounded z × AllBounded (z .start + z .length) zs
 unfolding AllBounded
-bounded-next z zs l q h = rw q at h
+bounded-next e z zs l q h = rw q at h

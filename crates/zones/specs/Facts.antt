@@ -20,9 +20,10 @@ pub record Bounded (z : Zone) : Type 0 where
   pub end : z .start + z .length ≤ 2 ^ 40
   pub pointer : pointed z ≡ true → Pointed z
 
-unfoldable pub AllBounded : List Zone → Type 0
-AllBounded [] = Unit
-AllBounded (z ∷ zs) = Bounded z × AllBounded zs
+-- zones that follow each other from `e` on, each bounded
+unfoldable pub AllBounded : ℕ → List Zone → Type 0
+AllBounded e [] = Unit
+AllBounded e (z ∷ zs) = (z .start ≡ e) × Bounded z × AllBounded (z .start + z .length) zs
 
 -- ---- a fault
 

@@ -6,17 +6,14 @@ use borrow.Author.Needs.{needs}
 use Rattle.report.proofs.good_header.Statement.{statement}
 use Rattle.report.proofs.good_header.Tie as tie
 
-u64-at-requires : tie.Need-u64-at-requires
-u64-at-requires c κs = search needs
+good-fields-requires : tie.Need-good-fields-requires
+good-fields-requires c κs = search needs
 
 u32-at-requires : tie.Need-u32-at-requires
 u32-at-requires c κs = search needs
 
 cast-count : tie.Need-cast-count
 cast-count c = search needs
-
-u32-at-requires-2 : tie.Need-u32-at-requires-2
-u32-at-requires-2 c κs = search needs
 
 mul-result : tie.Need-mul-result
 mul-result c = search needs
@@ -26,7 +23,7 @@ add-result c = search needs
 
 returns : tie.Need-returns
 unfolding goodHeader
-returns c = rw (c .u32-at2 .ensures, c .before .u32-at .ensures, c .before .before .u64-at .ensures, le-leb headerBytes (length (c .before .before .before .before .before .args .b .now)) (omega arith))
+returns c = rw (c .u32-at .ensures, c .before .good-fields .ensures, le-leb headerBytes (length (c .before .before .before .before .args .b .now)) (omega arith))
 
 returns-2 : tie.Need-returns-2
 unfolding goodHeader
@@ -36,10 +33,9 @@ pub good-header-spec : {M : Type 1} → statement M
 good-header-spec =
     tie.close
     (tie.spec
-    u64-at-requires
+    good-fields-requires
     u32-at-requires
     cast-count
-    u32-at-requires-2
     mul-result
     add-result
     returns
