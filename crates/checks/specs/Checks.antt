@@ -25,7 +25,8 @@ use Rattle.checks.specs.declared.Lookup.the-variants.{Found, Nothing}
 use Rattle.checks.specs.declared.Checked.{Checked}
 use Rattle.checks.specs.declared.Checked.the-variants.{Good, Refused}
 
--- ---- 10 (counts): "more files of either kind than rows lent or than 1,022, a wrong block", and 02: "an account above the seq file count"
+-- ---- 10 (counts): "more files of either kind than rows lent or than 1,022, a wrong block", and 02: "Files in 10 may now be up to 65,535", "an
+-- account above the seq file count"
 
 abbrev pub filesFit : ℕ → ℕ → Bool
 filesFit files words = leb files (rowsLent words) && leb files mostFiles

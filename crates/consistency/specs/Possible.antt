@@ -46,7 +46,8 @@ pub record RowPossible (s : State) (k : FileKind) (n : ℕ) : Type 0 where
   pub held : HeldPossible (s .mount .volume) k row (row .outstanding)
 
 pub record Possible (s : State) : Type 0 where
-  -- no "more files of either kind than rows lent or than 1,022", no "wrong block", 02: no "account above the seq file count"
+  -- no "more files of either kind than rows lent or than 1,022", which 02 raises to 65,535, no "wrong block", 02: no "account above the seq file
+  -- count"
   pub counts : countsFit (s .mount) (length (s .cnv)) (length (s .seq)) ≡ true
   -- 02: "both numbers are the true counts", so neither is "0 in what the named row counts in", whatever the row
   pub account : TrueCounts (s .mount) (s .seq)

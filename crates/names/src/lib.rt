@@ -36,7 +36,7 @@ fn kind_read(a: u8, b: u8, c: u8, d: u8) -> KindRead
     }
 }
 
-// The number of a decimal. It stops at the first byte that makes it one of no file: no more than five bytes are read, however long the text is.
+// The number of a decimal. It stops at the first byte that makes it one of no file: no more than six bytes are read, however long the text is.
 fn number_read(text: &[u8]) -> NumberRead
     ensures { λ r. ⌜ NumberTells (now (text .entry)) r ⌝ }
 {

@@ -6,7 +6,7 @@ rows-lent-requires : tie.Need-rows-lent-requires
 rows-lent-requires c κs = search needs
 
 returns : tie.Need-returns
-returns c = cc
+returns c = rw (c .rows-lent .ensures)
 
 pub files-fit-spec : {M : Type 1} → statement M
 files-fit-spec = tie.close (tie.spec rows-lent-requires returns)
