@@ -38,7 +38,7 @@ pub const READ_ORDER: [Refusal; 7] = [
 ];
 
 /// Lengths that no super block has.
-const BAD_LENGTHS: [usize; 12] = [0, 1, 4, 107, 108, 512, 4095, 4095, 4095, 4097, 4097, 8192];
+pub const BAD_LENGTHS: [usize; 12] = [0, 1, 4, 107, 108, 512, 4095, 4095, 4095, 4097, 4097, 8192];
 /// Lengths that no label has. The least, which a check that is off by one would take, is the commonest.
 const LONG_LABELS: [usize; 12] = [65, 65, 65, 66, 66, 127, 128, 255, 256, 320, 4096, 65_536];
 /// Lengths that no zone's record has.
@@ -106,9 +106,9 @@ pub fn super_case(seed: u64, number: u64) -> Vec<u8> {
     bytes
 }
 
-type Spoiler = fn(&mut Random, &mut [u8]);
-/// All but the last leave a right checksum.
-const SPOILERS: [(Refusal, Spoiler); 6] = [
+pub type Spoiler = fn(&mut Random, &mut [u8]);
+/// What puts each fault into a super block, in an order that keeps those before: all but the last leave a right checksum.
+pub const SPOILERS: [(Refusal, Spoiler); 6] = [
     (Refusal::Magic, spoil_magic),
     (Refusal::Features, spoil_features),
     (Refusal::Owner, spoil_owner),
@@ -148,7 +148,7 @@ fn case_with(random: &mut Random, faults: &[Refusal]) -> FormatCase {
 }
 
 /// Some would be good, if only so many of their bits were looked at.
-fn bad_block(random: &mut Random) -> u64 {
+pub fn bad_block(random: &mut Random) -> u64 {
     let wide = random.pick(&[1 << 16, 1 << 32, 1 << 63]) | random.pick(&[512, 4096]);
     let narrow = u64::from(random.pick(&BAD_BLOCKS));
     random.pick(&[narrow, narrow, wide, u64::MAX])

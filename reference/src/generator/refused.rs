@@ -242,8 +242,8 @@ fn bad_explicit_open(random: &mut Random) -> Vec<u8> {
     [front, &piece, back].concat()
 }
 
-/// Makes one zone of a report bad.
-fn spoil_a_zone(random: &mut Random, shape: &mut Shape) {
+/// Makes one zone of a report bad. There is one.
+pub fn spoil_a_zone(random: &mut Random, shape: &mut Shape) {
     let number = match random.below(4) {
         0 => 0,
         1 => shape.zones.len() - 1,

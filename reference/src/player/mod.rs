@@ -1,4 +1,4 @@
-//! The player: mounting, deciding calls, digesting completions, playing a tape of these, and formatting. It uses nothing
+//! The player: mounting, also in pieces, deciding calls, digesting completions, playing a tape of these, and formatting. It uses nothing
 //! else of this crate.
 
 pub mod account;
@@ -8,6 +8,7 @@ pub mod completion;
 pub mod format;
 pub mod mount;
 pub mod options;
+pub mod pieces;
 pub mod play;
 pub mod superblock;
 pub mod tape;

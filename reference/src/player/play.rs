@@ -3,7 +3,7 @@
 use super::calls::Reply;
 use super::mount::{mount, Input};
 use super::tape::{CallRecord, Named, Next, Reader, Record};
-use super::types::{Operation, Refusal, Row, Volume, MAX_FILES};
+use super::types::{Operation, Refusal, Row, Volume, PLAYER_ROWS};
 
 /// A printed line, and where on the tape its record begins.
 #[derive(Clone, Debug, PartialEq, Eq)]
@@ -62,10 +62,10 @@ pub fn read_input(reader: &mut Reader) -> Option<(usize, Input)> {
     Some((at, input))
 }
 
-/// A volume with the tape's tables: as many rows as there can be files.
+/// A volume with the tape's tables: as many rows as there can be files on a tape.
 pub fn mount_volume(input: &Input) -> Result<Volume, Refusal> {
-    let mut cnv = vec![Row::EMPTY; MAX_FILES];
-    let mut seq = vec![Row::EMPTY; MAX_FILES];
+    let mut cnv = vec![Row::EMPTY; PLAYER_ROWS];
+    let mut seq = vec![Row::EMPTY; PLAYER_ROWS];
     let (mount, account) = mount(input, &mut cnv, &mut seq)?;
     Ok(Volume { mount, account, cnv, seq })
 }

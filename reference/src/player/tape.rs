@@ -1,7 +1,7 @@
 //! The records of a tape, and how they are read.
 
 use super::calls::{Call, Request};
-use super::types::{u32_at, u64_at, FileKind, MAX_ZONES};
+use super::types::{u32_at, u64_at, FileKind, TAPE_ZONES};
 use super::{superblock, zone};
 
 #[derive(Clone, Copy, Debug, PartialEq, Eq)]
@@ -186,10 +186,10 @@ fn decode(rest: &[u8]) -> Option<(Record<'_>, usize)> {
     Some((record, 2 + length))
 }
 
-/// Nothing follows a header whose count no report can have.
+/// Nothing follows a header whose count no report on a tape can have. Such a report lacks its zones, so a mount answers 28.
 fn report_length(header: &[u8]) -> usize {
     match u32_at(header, 8) {
-        count @ 1..=MAX_ZONES => zone::HEADER + zone::RECORD * count as usize,
+        count @ 1..=TAPE_ZONES => zone::HEADER + zone::RECORD * count as usize,
         _ => zone::HEADER,
     }
 }

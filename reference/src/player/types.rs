@@ -5,9 +5,13 @@ pub const SECTOR: u64 = 512;
 /// No zone and no file ends beyond this sector.
 pub const DISK_LIMIT: u64 = 1 << 40;
 /// A report has at most this many zones.
-pub const MAX_ZONES: u32 = 1023;
+pub const MAX_ZONES: u32 = 65_536;
 /// Zone 0 is never a file, so there are at most this many files of a kind.
-pub const MAX_FILES: usize = 1022;
+pub const MAX_FILES: usize = 65_535;
+/// "The tape keeps to 1,023 zones" (K4): behind a header with a larger count no zone is read.
+pub const TAPE_ZONES: u32 = 1023;
+/// So a player of tapes needs no more rows of each kind than this.
+pub const PLAYER_ROWS: usize = 1022;
 
 #[derive(Clone, Copy, Debug, PartialEq, Eq)]
 pub enum FileKind {

@@ -133,17 +133,38 @@ fn is_whole(sectors: u64, step: u64) -> bool {
     sectors != 0 && sectors.is_multiple_of(step)
 }
 
+/// What a report's header says of what follows it.
+#[derive(Clone, Copy, Debug, PartialEq, Eq)]
+pub struct Header {
+    pub count: usize,
+    pub capacity_given: bool,
+}
+
+impl Header {
+    /// `bytes` has 16 bytes, and may have more. None where sector, count or flags are none that a report has.
+    pub fn decode(bytes: &[u8]) -> Option<Header> {
+        let (sector, count, flags) = (u64_at(bytes, 0), u32_at(bytes, 8), u32_at(bytes, 12));
+        let good = sector == 0 && (1..=MAX_ZONES).contains(&count) && flags <= 1;
+        good.then_some(Header { count: count as usize, capacity_given: flags == 1 })
+    }
+
+    /// Of the whole report.
+    pub fn report_length(&self) -> usize {
+        HEADER + RECORD * self.count
+    }
+}
+
 /// The zones of a report with a good header, unchecked. Anything wrong with header or length is 28.
 pub fn decode_report(report: &[u8]) -> Result<Vec<Zone>, Refusal> {
     if report.len() < HEADER {
         return Err(Refusal::ReportHeader);
     }
-    let (sector, count, flags) = (u64_at(report, 0), u32_at(report, 8), u32_at(report, 12));
-    let length = HEADER as u64 + RECORD as u64 * u64::from(count);
-    if sector != 0 || count == 0 || count > MAX_ZONES || flags > 1 || report.len() as u64 != length {
+    let header = Header::decode(report).ok_or(Refusal::ReportHeader)?;
+    if report.len() != header.report_length() {
         return Err(Refusal::ReportHeader);
     }
-    Ok(report[HEADER..].chunks(RECORD).map(|record| Zone::decode(record, flags == 1)).collect())
+    let records = report[HEADER..].chunks(RECORD);
+    Ok(records.map(|record| Zone::decode(record, header.capacity_given)).collect())
 }
 
 /// 29 with the first zone that isn't good or doesn't start where the one before ended.

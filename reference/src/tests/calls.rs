@@ -66,11 +66,11 @@ fn commands() {
 fn impossible_mounts() {
     let broken: [fn(&mut Volume); 6] = [
         |volume| volume.mount.block = 513,
-        |volume| volume.mount.cnv_files = 1023,
-        |volume| volume.mount.seq_files = 1023,
+        |volume| volume.mount.cnv_files = 65_536,
+        |volume| volume.mount.seq_files = 65_536,
         |volume| volume.cnv.truncate(1),
         |volume| volume.seq.clear(),
-        |volume| (volume.mount.seq_files, volume.seq) = (1023, vec![Row::EMPTY; 1023]),
+        |volume| (volume.mount.seq_files, volume.seq) = (65_536, vec![Row::EMPTY; 65_536]),
     ];
     for change in broken {
         let mut volume = sheet();

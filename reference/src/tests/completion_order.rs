@@ -84,7 +84,7 @@ fn spoilt(has: &impl Fn(&str) -> bool, way: usize) -> Volume {
     if has("counts") {
         let broken: [fn(&mut Volume); 3] = [
             |volume| volume.mount.block = 1024,
-            |volume| volume.mount.cnv_files = 1023,
+            |volume| volume.mount.cnv_files = 65_536,
             |volume| volume.seq.truncate(1),
         ];
         broken[way](&mut volume);

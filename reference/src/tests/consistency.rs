@@ -416,7 +416,7 @@ fn answers_that_no_call_of_a_run_has() {
     run.volume.mount.seq_files = 3;
     let complaint = run.call(&read(SEQ, 2, 0, 1)).unwrap_err();
     assert!(complaint.contains("a file that isn't there is answered 10"), "{complaint}");
-    run.volume.mount.seq_files = 1023;
+    run.volume.mount.seq_files = 65_536;
     let unknown = CallRecord { verb: Verb::Read, kind: 2, number: 0, offset: 0, length: 0 };
     let complaint = run.recorded_call(&unknown).unwrap_err();
     assert!(complaint.contains("a file that isn't there is answered 10"), "{complaint}");

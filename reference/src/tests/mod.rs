@@ -15,6 +15,7 @@ mod mount;
 mod opening;
 mod openings;
 mod perms;
+mod pieces;
 mod pointers;
 mod reasons;
 mod sheet;

@@ -69,7 +69,29 @@ fn report_header() {
     assert_eq!(changed(|input| input.report[12] = 3), 28);
     assert_eq!(changed(|input| input.report.truncate(15)), 28);
     assert_eq!(changed(|input| input.report = vec![0; 16]), 28);
-    assert_eq!(changed(|input| input.report = report(1, &vec![sheet_zones()[0]; 1024])), 28);
+    assert_eq!(changed(|input| input.report = report(1, &vec![sheet_zones()[0]; 65_537])), 28);
+}
+
+/// Conventional zones of 8 sectors, one after the other.
+fn many_zones(count: u64) -> Vec<Zone> {
+    (0..count).map(|number| zone(number * 8, 8, 0, 1, 0, 8)).collect()
+}
+
+/// The most zones of a report, and the most files of a kind in 10; a player's tables are too short for them.
+#[test]
+fn the_most_zones() {
+    let input = input_with(0, "", &many_zones(65_536));
+    assert_eq!(refusal(&input), 30);
+    let (mut cnv, mut seq) = (vec![Row::EMPTY; 65_535], vec![]);
+    let (mount_value, account) = mount(&input, &mut cnv, &mut seq).unwrap();
+    assert_eq!((mount_value.cnv_files, mount_value.seq_files), (65_535, 0));
+    assert_eq!((cnv[0].start, cnv[65_534].start), (8, 8 * 65_535));
+    let volume = Volume { mount: mount_value, account, cnv, seq };
+    assert_eq!(volume.find(b"cnv/65534"), Ok((CNV, 65_534)));
+    assert_eq!(volume.find(b"cnv/65535"), Err(Refusal::NoSuchFile));
+    let input = input_with(0, "", &many_zones(65_537));
+    let (mut cnv, mut seq) = (vec![Row::EMPTY; 65_536], vec![]);
+    assert_eq!(mount(&input, &mut cnv, &mut seq), Err(Refusal::ReportHeader));
 }
 
 /// The number of the bad zone, if zone 3 is this one.

@@ -80,12 +80,20 @@ fn a_refused_mount_stops_the_tape() {
 
 #[test]
 fn a_report_without_a_possible_count_is_only_a_header() {
-    for count in [0, 1024, u32::MAX] {
+    for count in [0, 1024, 65_536, u32::MAX] {
         let mut report = vec![0; 16];
         report[8..12].copy_from_slice(&count.to_le_bytes());
         let input = Input { block: 512, report, ..sheet_input() };
         assert_eq!(lines(&head(&input)), ["MO 28"]);
     }
+}
+
+/// 1,023 zones are read; behind the header of 1,024 the zones are no record's, though a mount elsewhere takes as many.
+#[test]
+fn a_tape_keeps_to_its_own_most_zones() {
+    let zones: Vec<Zone> = (0..1024).map(|number| zone(number * 8, 8, 0, 1, 0, 8)).collect();
+    assert_eq!(lines(&head(&input_with(0, "", &zones[..1023]))), ["MO 0 1022 0"]);
+    assert_eq!(lines(&head(&input_with(0, "", &zones))), ["?? 40"]);
 }
 
 #[test]

@@ -1,11 +1,12 @@
 //! The library, linked into this process, against the reference on random inputs, call by call: number, values, mount words, account words and
-//! both tables, super blocks made and read; and the typed functions against those on words.
+//! both tables, super blocks made and read, mounts in pieces; and the typed functions against those on words.
 
 mod convert;
 mod events;
 mod formats;
 mod inputs;
 mod openings;
+mod pieces;
 mod situations;
 mod typed;
 
@@ -18,9 +19,12 @@ use reference::generator::random::Random;
 use reference::player::mount::Input;
 use reference::player::play::{mount_volume, read_input};
 use reference::player::tape::{Next, Reader};
-use reference::player::types::MAX_FILES;
+use reference::player::types::{MAX_FILES, PLAYER_ROWS};
 use situations::Situations;
-use zonefs::words::{ACCOUNT_WORDS, ANSWER_RECORD_REASON, ANSWER_WORDS, ANSWER_ZONE_REASON, MOUNT_WORDS};
+use zonefs::words::{
+    ACCOUNT_WORDS, ANSWER_RECORD_REASON, ANSWER_WORDS, ANSWER_ZONE_REASON, MOUNT_CNV_FILES, MOUNT_SEQ_FILES,
+    MOUNT_WORDS,
+};
 
 /// The mount of a tape; None if it isn't there whole.
 fn input_of(reader: &mut Reader) -> Option<Input> {
@@ -89,7 +93,7 @@ fn tapes_give_the_same() {
         let mut reader = Reader::new(&bytes);
         let Some(input) = input_of(&mut reader) else { continue };
         let mut random = Random::new(2, index);
-        let rows = random.pick(&[MAX_FILES, 60, 60, 60, 60, 20, 2, 0]);
+        let rows = random.pick(&[PLAYER_ROWS, 60, 60, 60, 60, 20, 2, 0]);
         let mut lent = Lent::any(&mut random, rows);
         let number = check_mount(&mut lent, &input);
         seen.note(number, &lent.answer);
@@ -216,6 +220,31 @@ fn blocks_above_sixteen_bits_are_refused() {
     for block in [0, 511, 65_536 + 512, (1 << 32) + 4096, u64::MAX] {
         let mut lent = Lent::any(&mut random, 30);
         assert_eq!(ask_mount(&mut lent, block, &input), 20);
+    }
+}
+
+/// As many files of a kind as there can be, and one more: 10, though there are rows for it.
+#[test]
+fn more_than_the_most_files_are_impossible() {
+    let input = (0..).find_map(|index| mounting_input(12, index)).expect("some tape mounts");
+    let mut random = Random::new(15, 0);
+    let mut lent = Lent::any(&mut random, MAX_FILES + 2);
+    assert_eq!(check_mount(&mut lent, &input), 0);
+    let mounted = lent.mount.clone();
+    for count_at in [MOUNT_CNV_FILES, MOUNT_SEQ_FILES] {
+        for (files, expected) in
+            [(MAX_FILES - 1, 1), (MAX_FILES, 1), (MAX_FILES + 1, 10), (MAX_FILES + 2, 10)]
+        {
+            lent.mount = mounted.clone();
+            lent.mount[count_at] = files as u64;
+            assert_eq!(check(&mut lent, &Event::Find(b"nothing".to_vec())), expected, "{files} files");
+        }
+        // The last file that there can be is found, and its row is looked at: garbage.
+        lent.mount = mounted.clone();
+        lent.mount[count_at] = MAX_FILES as u64;
+        let kind = u32::from(count_at == MOUNT_SEQ_FILES);
+        assert_eq!(check(&mut lent, &Event::Show(kind, MAX_FILES as u32 - 1)), 10);
+        assert_eq!(check(&mut lent, &Event::Show(kind, MAX_FILES as u32)), 1);
     }
 }
 
