@@ -83,6 +83,7 @@ static void print_values(struct zonefs_volume_answer a) {
   case ZONEFS_VOLUME_FAILED: printf(" %" PRIu64, a.size); break;
   case ZONEFS_VOLUME_FORMATTED: printf(" %" PRIu32, a.finish); break;
   case ZONEFS_VOLUME_FIELDS: break; /* they are in the caller's struct */
+  case ZONEFS_VOLUME_TAKEN: break;  /* of a mount in pieces, which examples/pieces.c has */
   case ZONEFS_VOLUME_REFUSED: print_refusal(a); break;
   }
 }

@@ -8,6 +8,7 @@
  *
  *   zonefs_format, zonefs_super_fields                  make a disk's first bytes, or read the values in them; no mount is needed
  *   zonefs_mount                                        once, with the disk's first bytes, its zone report and its limits
+ *   zonefs_begin, zonefs_piece, zonefs_end              the same with a report that comes in pieces, cut anywhere
  *   zonefs_read, _write, _truncate, _flush              refused, answered at once, or a command for the disk, which is then outstanding
  *   zonefs_open, zonefs_close                           the same, around the writes to a seq file, which the option explicit-open demands
  *   zonefs_complete, zonefs_fail                        a file's outstanding command was done, or failed; its next call may follow
@@ -18,11 +19,13 @@
  * The library keeps nothing: no heap, no globals, no input or output. What it knows of a mounted volume lives in memory
  * that the caller lends to each call:
  *
- *   mount words   ZONEFS_MOUNT_WORDS words of 64 bits, written by zonefs_mount; zonefs_fail may set their read-only mark; keep them as they are
+ *   mount words   ZONEFS_MOUNT_WORDS words of 64 bits, written by zonefs_mount or zonefs_end; zonefs_fail may set their read-only mark; keep them as
+ *                 they are
  *   account words ZONEFS_ACCOUNT_WORDS words of 64 bits: how many seq files are open and how many active, and the limit of each; written by
- *                 zonefs_mount, and corrected by zonefs_open and zonefs_close and by what ends commands
+ *                 zonefs_mount or zonefs_end, and corrected by zonefs_open and zonefs_close and by what ends commands
  *   cnv, seq      a table for the files of each kind, ZONEFS_ROW_WORDS words of 64 bits for each file, with its opens and the command that it has
- *                 outstanding; written by zonefs_mount, and changed by the calls and by what ends their commands
+ *                 outstanding; written by zonefs_mount or zonefs_piece, and changed by the calls and by what ends their commands
+ *   pieces words  ZONEFS_PIECES_WORDS words of 64 bits, for a mount in pieces alone: what is held from its begin to its end
  *   answer words  ZONEFS_ANSWER_WORDS words of 64 bits, overwritten with what the call answers beside its number
  *
  * Every slice is lent as a pointer and the number of its elements. The pointer must not be null, also where the number is 0, and must be
@@ -30,13 +33,14 @@
  * memory holds: each function answers for every content, and reads or writes nothing outside the slices. One thread at a time may use
  * one mount's memory.
  *
- * On the stack zonefs_mount, zonefs_format, zonefs_super_fields and zonefs_checksum take some 10 kB, of which 8 KiB are the checksum's tables; the
- * others take less than 1 kB.
+ * On the stack zonefs_mount, zonefs_begin, zonefs_format, zonefs_super_fields and zonefs_checksum take some 10 kB, of which 8 KiB are the checksum's
+ * tables; the others take less than 1 kB.
  *
- * Each function but zonefs_checksum returns one of the numbers below. Where a slice for mount words, account words or answer words is too short,
- * one for a uuid, or to read a label into, has another length than it should have, the mount words that are read hold no mount value, or an account
- * word that is read is above 0xFFFFFFFF, the number is ZONEFS_IMPOSSIBLE and nothing is written. Otherwise the answer words are written, also with a
- * refusal: word 0 is the number of values, and words 1 to 6 are the values, with 0 after the last.
+ * Each function but zonefs_checksum returns one of the numbers below. Where a slice for mount words, account words, pieces words or answer words is too
+ * short, one for a uuid, or to read a label into, has another length than it should have, the mount words that are read hold no mount value, the pieces
+ * words that are read hold no mount that was begun, or an account word that is read is above 0xFFFFFFFF, the number is ZONEFS_IMPOSSIBLE and nothing is
+ * written. Otherwise the answer words are written, also with a refusal: word 0 is the number of values, and words 1 to 6 are the values, with 0 after
+ * the last.
  *
  * A table has as many rows as its words divided by ZONEFS_ROW_WORDS, rounded down. Too few rows for the files answer ZONEFS_TOO_FEW_ROWS to a mount
  * and ZONEFS_IMPOSSIBLE after it; more than needed are left alone.
@@ -53,14 +57,18 @@
 extern "C" {
 #endif
 
-/* The words of a mount value, of an account, of a row, and of an answer. */
+/* The words of a mount value, of an account, of a row, of an answer, and of a mount in pieces. */
 #define ZONEFS_MOUNT_WORDS 11
 #define ZONEFS_ACCOUNT_WORDS 4
 #define ZONEFS_ROW_WORDS 9
 #define ZONEFS_ANSWER_WORDS 7
+#define ZONEFS_PIECES_WORDS 39
 
-/* The most files of a kind, so that tables of this many rows are always long enough. */
-#define ZONEFS_MOST_FILES 1022
+/*
+ * The most files of a kind, so that tables of this many rows are always long enough. A row takes 72 bytes, so such a table takes 4,718,520, and both
+ * take 9.4 megabytes. A program need not lend as much: as many rows of a kind as its disk has files of it are enough, and a file is one zone or more.
+ */
+#define ZONEFS_MOST_FILES 65535
 
 /* The most opens of one file. */
 #define ZONEFS_MOST_OPENS 65535
@@ -73,7 +81,7 @@ extern "C" {
 /* The bytes of a report's header and of a zone record, and the most zones of a report. */
 #define ZONEFS_HEADER_BYTES 16
 #define ZONEFS_ZONE_BYTES 64
-#define ZONEFS_MOST_ZONES 1023
+#define ZONEFS_MOST_ZONES 65536
 
 /* The numbers that the functions return. */
 enum {
@@ -87,7 +95,8 @@ enum {
   ZONEFS_FAILED = 7,              /* the disk failed it, and that was digested; one value: the file's new size */
   ZONEFS_NOTHING_OUTSTANDING = 8, /* completion of a file that has nothing outstanding */
   ZONEFS_BAD_RECORD = 9,          /* the failed completion's zone record doesn't fit; the command stays outstanding; one value: the reason */
-  ZONEFS_IMPOSSIBLE = 10,         /* mount value, account or tables impossible, or words or tables too short; a uuid or label buffer of another length */
+  ZONEFS_IMPOSSIBLE = 10,         /* mount value, account or tables impossible, or words or tables too short; a uuid or label buffer of another length;
+                                     pieces words without a mount that was begun */
   ZONEFS_OPEN_LIMIT = 11,         /* explicit-open: an open that would raise the open files above their limit */
   ZONEFS_ACTIVE_LIMIT = 12,       /* explicit-open: an open that would raise the active files above theirs */
   ZONEFS_NOT_OPEN = 13,           /* close of a seq file that isn't open; with explicit-open also a write to one */
@@ -100,9 +109,9 @@ enum {
   ZONEFS_SUPER_OWNER = 25,        /* uid or gid in use and 0xFFFFFFFF */
   ZONEFS_SUPER_TAIL = 26,         /* nonzero tail */
   ZONEFS_BAD_OPTIONS = 27,        /* options */
-  ZONEFS_BAD_REPORT = 28,         /* report header or length */
+  ZONEFS_BAD_REPORT = 28,         /* report header or length; in pieces a byte too many, or one that is missing at the end */
   ZONEFS_BAD_ZONE = 29,           /* bad zone; two values: the lowest number of one, and the reason */
-  ZONEFS_TOO_FEW_ROWS = 30,       /* too few rows in the tables for the files of either kind */
+  ZONEFS_TOO_FEW_ROWS = 30,       /* too few rows in the tables for the files of either kind; in pieces for the file that comes next */
   ZONEFS_SUPER_PERM = 33,         /* perm in use (feature bit 3) and above 0777; checked after 25 and before 26 */
   ZONEFS_LABEL_LENGTH = 34        /* zonefs_format: label longer than ZONEFS_LABEL_BYTES; checked after 33 and before 29 */
 };
@@ -178,11 +187,11 @@ enum {
   /* zonefs_fail: 9 */
   ZONEFS_ANSWER_RECORD_REASON = 1, /* ZONEFS_REASON_NO_RECORD to ZONEFS_REASON_BETTER_CONDITION */
 
-  /* zonefs_mount: 0 */
+  /* zonefs_mount, zonefs_end: 0 */
   ZONEFS_ANSWER_CNV_FILES = 1,
   ZONEFS_ANSWER_SEQ_FILES = 2,
 
-  /* zonefs_mount, zonefs_format: 29 */
+  /* zonefs_mount, zonefs_piece, zonefs_end, zonefs_format: 29 */
   ZONEFS_ANSWER_ZONE = 1,        /* the lowest number of a bad zone; of zonefs_format 0 */
   ZONEFS_ANSWER_ZONE_REASON = 2, /* ZONEFS_REASON_START to ZONEFS_REASON_POINTER; of zonefs_format also ZONEFS_REASON_NO_RECORD */
 
@@ -333,6 +342,55 @@ uint64_t zonefs_mount(uint64_t block, const uint8_t *superblock, size_t superblo
                       uint32_t active_limit, uint64_t *cnv, size_t cnv_words, uint64_t *seq, size_t seq_words,
                       uint64_t *mount, size_t mount_words, uint64_t *account, size_t account_words, uint64_t *answer,
                       size_t answer_words);
+
+/*
+ * The mount in pieces, for a report that is not in memory all at once: zonefs_begin once, then zonefs_piece for each part of the report's bytes, one
+ * behind the other, then zonefs_end. The bytes are those that zonefs_mount takes: one header, with the count of all zones, and then the records of all
+ * of them. Any cut does, also within the header or within a record, and a piece may have no bytes: what comes out does not depend on the cuts.
+ * A report that zonefs_mount accepts gives the same numbers, values, rows, mount words and account words in pieces, where each piece is lent tables as
+ * long as that mount's. One that it refuses is refused in pieces too, but by its first fault in the order of the bytes.
+ * What is held between the pieces stands in the pieces words, and nowhere else: the bytes of a header or of one record that is not whole yet, one run
+ * of conventional zones that is not finished yet, a few numbers, and what zonefs_begin has found. What each word means is the library's own. They may
+ * be copied or kept, and lent again.
+ */
+
+/*
+ * Begins. Reads what zonefs_mount reads before the report: the block, the super block, the option text and the limits. Writes the pieces words.
+ * Returns 0, with no value; or 10 (pieces or answer words too few), 20 to 27, 33, as zonefs_mount does of these and in its order. Refused by 20 to 27
+ * or 33, the pieces words hold no mount that was begun: zonefs_piece and zonefs_end answer 10 to them.
+ */
+uint64_t zonefs_begin(uint64_t block, const uint8_t *superblock, size_t superblock_bytes, const uint8_t *options,
+                      size_t options_bytes, uint32_t open_limit, uint32_t active_limit, uint64_t *pieces,
+                      size_t pieces_words, uint64_t *answer, size_t answer_words);
+
+/*
+ * Takes the report's next bytes. Reads them and the pieces words; writes the pieces words and, at its number in its table, the row of each file that is
+ * finished in this piece, with nothing outstanding and no opens. No other row is read or written. Each piece is lent both tables. They are the same
+ * memory each time where the rows are to be used afterwards, though nothing demands it; only the length of those lent with this piece counts.
+ * A seq file is finished with its zone, and so is a cnv file without ZONEFS_FEATURE_AGGREGATE. With it, a run of conventional zones is finished by the
+ * count's last zone, or by a good zone of another type. Zone 0 is no file, and belongs to no run.
+ * Returns 0, with no value, where nothing is wrong so far. Or returns 10 (pieces or answer words too few, or pieces words that hold no mount that was
+ * begun), or, at the byte that shows it,
+ *   28  a bad header (sector, count, flags), at its last byte; or a byte behind the last zone that the header counts
+ *   29  a bad zone, at the last byte of its record, with two values, its number and the reason; it finishes nothing
+ *   30  a table without a row for the file that a good zone begins, at the last byte of that zone's record; a run that this zone has finished is stored
+ *       before. Also where a run is finished while the table lent has no row for it, as it had when the run began.
+ * Refused by 28 to 30, the rows of the files that were finished before stay stored, in this piece as in those before it, all others are as they were,
+ * and no mount can come of it any more: every further piece and the end return the same number and values, and leave pieces words and tables alone.
+ */
+uint64_t zonefs_piece(uint64_t *pieces, size_t pieces_words, const uint8_t *bytes, size_t count, uint64_t *cnv,
+                      size_t cnv_words, uint64_t *seq, size_t seq_words, uint64_t *answer, size_t answer_words);
+
+/*
+ * Ends: the report has no more bytes. Reads the pieces words; writes the mount words and the account words, as zonefs_mount does, and where bytes are
+ * missing the pieces words. The tables, which are not lent here, have all their rows from the pieces.
+ * Returns 0, with two values, the numbers of cnv and of seq files, and the pieces words are as they were: a second end returns the same, and a further
+ * byte is one too many. Or returns 10 (pieces, mount, account or answer words too few, or pieces words that hold no mount that was begun); what a piece
+ * was refused by, with its values; or 28, where bytes are missing, and then so does every further piece and end, also a piece with those bytes. Refused
+ * by 28 to 30, the mount words and account words are all 0, with which every call and every completion answers 10.
+ */
+uint64_t zonefs_end(uint64_t *pieces, size_t pieces_words, uint64_t *mount, size_t mount_words, uint64_t *account,
+                    size_t account_words, uint64_t *answer, size_t answer_words);
 
 /*
  * Finds a name such as "seq/12", given without a final zero. Reads mount words, account words and tables; writes the answer words only. Here and

@@ -3,7 +3,8 @@
  * functions do all the work, and zonefs.h says what each reads, writes and answers; nothing of an answer is lost here.
  *
  * A volume holds the mount words and the account words, and points to two tables that the caller lends. So the caller chooses the room: a few rows
- * in firmware, ZONEFS_MOST_FILES rows of each kind where any disk has to fit. Tables inside the struct would make every volume 147 kilobytes long.
+ * in firmware, as many as the disk has files on a large one, ZONEFS_MOST_FILES rows of each kind where any disk has to fit. Tables inside the struct
+ * would make every volume 9.4 megabytes long.
  *
  *   static uint64_t cnv[ROWS * ZONEFS_ROW_WORDS], seq[ROWS * ZONEFS_ROW_WORDS];
  *   static struct zonefs_volume volume;
@@ -16,6 +17,9 @@
  * Until it is mounted, and after a refused mount, a volume answers as the plain functions do with mount words of 0: 10 to a call, a completion,
  * finding and showing. That holds before zonefs_volume_lend too, if the struct is all zero, as a static one is; it has no rows then. A table with
  * a null pointer always has none. A copy of the struct is no second volume: both would change the same tables.
+ *
+ * Where the report comes in pieces, as that of a large disk does, zonefs_volume_begin, zonefs_volume_piece for each, and zonefs_volume_end mount it;
+ * what is held between them is a struct of its own, which is not needed afterwards.
  *
  * A disk that has never been mounted needs a super block first. zonefs_volume_format makes one from a struct of its values, and
  * zonefs_volume_super_fields reads them back; neither takes a volume.
@@ -38,6 +42,11 @@ struct zonefs_volume {
   size_t seq_words;
 };
 
+/* What is held of a mount in pieces, from zonefs_volume_begin to zonefs_volume_end. A copy goes on from where it was taken. */
+struct zonefs_volume_pieces {
+  uint64_t words[ZONEFS_PIECES_WORDS]; /* the library's own */
+};
+
 /*
  * The values of a super block. The label is any bytes, not only text. It has one byte more than a super block holds, so that a label read back
  * ends in a zero and a text of ZONEFS_LABEL_BYTES characters fits with its own. A label_bytes above ZONEFS_LABEL_BYTES is refused, whatever it is.
@@ -54,7 +63,8 @@ struct zonefs_volume_super {
 
 /* What kind of answer it is. */
 enum zonefs_volume_outcome {
-  ZONEFS_VOLUME_REFUSED = 0, /* the number says why; nothing changed, but for the mount and account words of a refused mount */
+  ZONEFS_VOLUME_REFUSED = 0, /* the number says why; nothing changed, but for the mount and account words of a refused mount, and of one in pieces also
+                                the struct of pieces and the rows of files that were finished before */
   ZONEFS_VOLUME_FAILED = 1,  /* number 7: the disk failed the command, and that was digested */
   ZONEFS_VOLUME_DONE = 2,    /* the call is over: at once, or because its command was completed */
   ZONEFS_VOLUME_COMMAND = 3, /* the disk is to do a command, which is outstanding until zonefs_volume_complete or zonefs_volume_fail of its file */
@@ -62,7 +72,8 @@ enum zonefs_volume_outcome {
   ZONEFS_VOLUME_FOUND = 5,
   ZONEFS_VOLUME_SHOWN = 6,
   ZONEFS_VOLUME_FORMATTED = 7, /* the super block is written, in memory */
-  ZONEFS_VOLUME_FIELDS = 8     /* the values of a super block were read */
+  ZONEFS_VOLUME_FIELDS = 8,    /* the values of a super block were read */
+  ZONEFS_VOLUME_TAKEN = 9      /* a mount in pieces was begun, or took a piece, and goes on */
 };
 
 /*
@@ -105,7 +116,7 @@ static inline const char *zonefs_volume_refusal_text(uint64_t number) {
   case ZONEFS_FAILED: return "the disk failed it";
   case ZONEFS_NOTHING_OUTSTANDING: return "the file has nothing outstanding";
   case ZONEFS_BAD_RECORD: return "the zone record does not fit; the command stays outstanding";
-  case ZONEFS_IMPOSSIBLE: return "mount words, account words or tables impossible or too short";
+  case ZONEFS_IMPOSSIBLE: return "mount words, account words, pieces words or tables impossible or too short";
   case ZONEFS_OPEN_LIMIT: return "as many files are open as may be";
   case ZONEFS_ACTIVE_LIMIT: return "as many files are active as may be";
   case ZONEFS_NOT_OPEN: return "the file is not open";
@@ -151,7 +162,7 @@ static inline struct zonefs_volume_answer zonefs_volume_answer_bare(uint64_t num
   return a;
 }
 
-/* of a mount or the formatter, which may have found a bad zone */
+/* of a mount, whole or in pieces, or the formatter, which may have found a bad zone */
 static inline struct zonefs_volume_answer zonefs_volume_answer_with_zone(uint64_t number, const uint64_t *words) {
   struct zonefs_volume_answer a = zonefs_volume_answer_bare(number);
   if (number == ZONEFS_BAD_ZONE) {
@@ -177,6 +188,14 @@ static inline struct zonefs_volume_answer zonefs_volume_answer_of_mount(uint64_t
     a.cnv_files = (uint32_t)words[ZONEFS_ANSWER_CNV_FILES];
     a.seq_files = (uint32_t)words[ZONEFS_ANSWER_SEQ_FILES];
   }
+  return a;
+}
+
+/* of a mount in pieces, before its end */
+static inline struct zonefs_volume_answer zonefs_volume_answer_of_piece(uint64_t number, const uint64_t *words) {
+  struct zonefs_volume_answer a = zonefs_volume_answer_with_zone(number, words);
+  if (number == ZONEFS_OK)
+    a.outcome = ZONEFS_VOLUME_TAKEN;
   return a;
 }
 
@@ -334,6 +353,42 @@ static inline struct zonefs_volume_answer zonefs_volume_mount(struct zonefs_volu
       zonefs_mount(block, (const uint8_t *)superblock, superblock_bytes, (const uint8_t *)options,
                    zonefs_volume_text_bytes(options), (const uint8_t *)report, report_bytes, open_limit, active_limit,
                    ZONEFS_VOLUME_TABLES, ZONEFS_VOLUME_WORDS, words, ZONEFS_ANSWER_WORDS);
+  return zonefs_volume_answer_of_mount(number, words);
+}
+
+/*
+ * The mount in pieces: begins, takes the report's bytes one piece behind the other, cut anywhere, and ends. Any piece may have no bytes, and then no
+ * address either. zonefs.h has the order of the checks, and what makes a row of the volume's tables be written.
+ * The volume is one to which tables were lent, as for any mount. It is mounted by the end, and until then its mount words are as they were; so one that
+ * is in use is no place for the pieces, as its rows would be overwritten.
+ * Begins: TAKEN, or refused by 20 to 27 or 33, and pieces that are refused so answer 10 from then on, as a struct of zeros does.
+ */
+static inline struct zonefs_volume_answer zonefs_volume_begin(struct zonefs_volume_pieces *pieces, uint64_t block,
+                                                              const void *superblock, size_t superblock_bytes,
+                                                              const char *options, uint32_t open_limit,
+                                                              uint32_t active_limit) {
+  uint64_t words[ZONEFS_ANSWER_WORDS] = {0};
+  uint64_t number = zonefs_begin(block, (const uint8_t *)superblock, superblock_bytes, (const uint8_t *)options,
+                                 zonefs_volume_text_bytes(options), open_limit, active_limit, pieces->words,
+                                 ZONEFS_PIECES_WORDS, words, ZONEFS_ANSWER_WORDS);
+  return zonefs_volume_answer_of_piece(number, words);
+}
+
+/* TAKEN, or refused by 10, 28, 29 with zone and reason, 30. After the last three, further pieces and the end are refused alike. */
+static inline struct zonefs_volume_answer zonefs_volume_piece(struct zonefs_volume_pieces *pieces, struct zonefs_volume *volume,
+                                                              const void *bytes, size_t count) {
+  uint64_t words[ZONEFS_ANSWER_WORDS] = {0};
+  /* for no bytes the mount words' address stands in, as for a table of no words */
+  const uint8_t *lent = bytes != NULL ? (const uint8_t *)bytes : (const uint8_t *)volume->mount;
+  uint64_t number = zonefs_piece(pieces->words, ZONEFS_PIECES_WORDS, lent, bytes != NULL ? count : 0, ZONEFS_VOLUME_TABLES,
+                                 words, ZONEFS_ANSWER_WORDS);
+  return zonefs_volume_answer_of_piece(number, words);
+}
+
+/* MOUNTED, or refused by 10, by what a piece was refused by, or by 28 where bytes are missing. */
+static inline struct zonefs_volume_answer zonefs_volume_end(struct zonefs_volume_pieces *pieces, struct zonefs_volume *volume) {
+  uint64_t words[ZONEFS_ANSWER_WORDS] = {0};
+  uint64_t number = zonefs_end(pieces->words, ZONEFS_PIECES_WORDS, ZONEFS_VOLUME_WORDS, words, ZONEFS_ANSWER_WORDS);
   return zonefs_volume_answer_of_mount(number, words);
 }
 

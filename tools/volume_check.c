@@ -1,8 +1,9 @@
 /*
  * Compares the functions of zonefs_volume.h with the plain ones of zonefs.h, call by call, on a small volume: every number that the library
- * has, every reason of 29 and 9, each command, answers at once, several files busy at once, files that are opened and closed, and rows and accounts
- * that hold anything. Of each answer all fields are compared, and all words, rows and bytes that both leave. Words of answers, rows and accounts are
- * counted out here, not named, so that a wrong name in the header shows. C99 and C++11. Ends with status 1 at the first difference.
+ * has, every reason of 29 and 9, each command, answers at once, several files busy at once, files that are opened and closed, rows and accounts
+ * that hold anything, and mounts in pieces, these with the whole mount too. Of each answer all fields are compared, and all words, rows and bytes that
+ * both leave. Words of answers, rows and accounts are counted out here, not named, so that a wrong name in the header shows. C99 and C++11. Ends with
+ * status 1 at the first difference.
  */
 #include <stdio.h>
 #include <stdlib.h>
@@ -36,6 +37,12 @@ static uint32_t open_limit, active_limit; /* what a mount is given; 0 is none */
 
 static uint8_t super_block[4096], report[16 + 6 * 64], record[65];
 static unsigned compared, seen[35], at_once, commands[7], zone_reasons[10], record_reasons[10], format_reasons[10];
+static unsigned pieces_seen[35], pieces_reasons[10];
+
+/* a mount in pieces, both ways, and what the whole mount leaves of the same bytes */
+static uint64_t pieces[38];
+static struct zonefs_volume_pieces volume_pieces;
+static uint64_t whole_mount[11], whole_account[4], whole_cnv[CNV_WORDS], whole_seq[SEQ_WORDS];
 
 /* a super block's values, and the block that both functions make of them */
 static struct zonefs_volume_super values;
@@ -95,7 +102,7 @@ static int same_words(const uint64_t *a, const uint64_t *b, size_t count) {
   return memcmp(a, b, count * sizeof(*a)) == 0;
 }
 
-enum function { MOUNT, FIND, SHOW, CALL, OPENING, COMPLETION, FORMAT, FIELDS };
+enum function { MOUNT, BEGIN, PIECE, END, FIND, SHOW, CALL, OPENING, COMPLETION, FORMAT, FIELDS };
 
 static void put_shown(struct zonefs_volume_answer *a) {
   a->outcome = ZONEFS_VOLUME_SHOWN;
@@ -124,7 +131,9 @@ static struct zonefs_volume_answer by_words(enum function f, uint64_t number) {
   a.size = number == 7 ? words[1] : 0;
   a.zone = number == 29 ? (uint32_t)words[1] : 0;
   a.reason = number == 29 ? (uint32_t)words[2] : number == 9 ? (uint32_t)words[1] : 0;
-  if (number == 0 && f == MOUNT) {
+  if (number == 0 && (f == BEGIN || f == PIECE)) {
+    a.outcome = ZONEFS_VOLUME_TAKEN;
+  } else if (number == 0 && (f == MOUNT || f == END)) {
     a.outcome = ZONEFS_VOLUME_MOUNTED;
     a.cnv_files = (uint32_t)words[1];
     a.seq_files = (uint32_t)words[2];
@@ -145,9 +154,9 @@ static struct zonefs_volume_answer by_words(enum function f, uint64_t number) {
   return a;
 }
 
-/* what both left of the account; only a mount, an open, a close and a completion may change it, and but for a mount none that is refused */
+/* what both left of the account; only a mount or its end, an open, a close and a completion may change it, and but for a mount none that is refused */
 static void compare_accounts(const char *what, enum function f, uint64_t number) {
-  int may_change = f == MOUNT || ((f == OPENING || f == COMPLETION) && (number == 0 || number == 7));
+  int may_change = f == MOUNT || f == END || ((f == OPENING || f == COMPLETION) && (number == 0 || number == 7));
   need(same_words(account, volume.account, 4), what, "the account words");
   need(may_change || same_words(account, account_before, 4), what, "the account should have stayed");
   memcpy(account_before, account, sizeof(account));
@@ -201,6 +210,35 @@ static void mount_as(const char *what, const char *options, uint64_t expected) {
   mount_of(what, BLOCK, 4096, options, sizeof(report), expected);
   make_super_block();
   make_report();
+}
+
+/* what both hold of a mount in pieces, and what its answer has: no value but for an end that mounts and for a bad zone */
+static void compare_pieces(const char *what, enum function f, uint64_t number) {
+  need(same_words(pieces, volume_pieces.words, 38), what, "the pieces words");
+  if (number != 10)
+    need(words[0] == (number == 29 || (number == 0 && f == END) ? 2u : 0u), what, "another number of values than expected");
+  pieces_seen[number]++;
+}
+
+static void begin_of(const char *what, uint64_t block, size_t super_bytes, const char *options, uint64_t expected) {
+  uint64_t number = zonefs_begin(block, super_block, super_bytes, (const uint8_t *)options, strlen(options), open_limit,
+                                 active_limit, pieces, 38, words, 7);
+  struct zonefs_volume_answer got =
+      zonefs_volume_begin(&volume_pieces, block, super_block, super_bytes, options, open_limit, active_limit);
+  compare(what, BEGIN, number, got, expected);
+  compare_pieces(what, BEGIN, number);
+}
+
+static void piece_of(const char *what, const uint8_t *bytes, size_t count, uint64_t expected) {
+  uint64_t number = zonefs_piece(pieces, 38, bytes, count, cnv, cnv_words, seq, seq_words, words, 7);
+  compare(what, PIECE, number, zonefs_volume_piece(&volume_pieces, &volume, bytes, count), expected);
+  compare_pieces(what, PIECE, number);
+}
+
+static void end_of(const char *what, uint64_t expected) {
+  uint64_t number = zonefs_end(pieces, 38, mount_words, 11, account, 4, words, 7);
+  compare(what, END, number, zonefs_volume_end(&volume_pieces, &volume), expected);
+  compare_pieces(what, END, number);
 }
 
 static void find(const char *name, uint64_t expected) {
@@ -358,21 +396,22 @@ struct bad_field {
   uint64_t value, reason;
 };
 
+static const struct bad_field zone_fields[] = {
+    {"zone's start", 5, 0, 8, 5 * LENGTH + 8, 1},
+    {"zone's length", 4, 8, 8, LENGTH - 4, 2},
+    {"zone's capacity", 5, 32, 8, LENGTH + 8, 3},
+    {"conventional zone's capacity", 2, 32, 8, CAPACITY, 3},
+    {"zone's end", 5, 8, 8, (uint64_t)1 << 40, 4},
+    {"zone's type", 4, 24, 1, 0, 5},
+    {"zone's condition", 1, 25, 1, 1, 6},
+    {"zone's pointer", 3, 16, 8, 3 * LENGTH + 1, 7},
+};
+
 /* 29 has two values. Here they are never the same number, so that one in the other's place shows. */
 static void try_bad_zones(void) {
-  static const struct bad_field fields[] = {
-      {"zone's start", 5, 0, 8, 5 * LENGTH + 8, 1},
-      {"zone's length", 4, 8, 8, LENGTH - 4, 2},
-      {"zone's capacity", 5, 32, 8, LENGTH + 8, 3},
-      {"conventional zone's capacity", 2, 32, 8, CAPACITY, 3},
-      {"zone's end", 5, 8, 8, (uint64_t)1 << 40, 4},
-      {"zone's type", 4, 24, 1, 0, 5},
-      {"zone's condition", 1, 25, 1, 1, 6},
-      {"zone's pointer", 3, 16, 8, 3 * LENGTH + 1, 7},
-  };
   size_t i;
-  for (i = 0; i < sizeof(fields) / sizeof(fields[0]); i++) {
-    const struct bad_field *f = &fields[i];
+  for (i = 0; i < sizeof(zone_fields) / sizeof(zone_fields[0]); i++) {
+    const struct bad_field *f = &zone_fields[i];
     put(report + 16 + f->zone * 64 + f->at, f->value, f->count);
     mount_as(f->what, "", 29);
     need(words[0] == 2 && words[1] == f->zone && words[2] == f->reason, f->what, "another zone or reason than expected");
@@ -1033,6 +1072,272 @@ static void try_opens(void) {
   try_held_opens();
 }
 
+/* ---- mounts in pieces */
+
+/* what is lent, so that it shows what is written */
+static void clear_tables(void) {
+  memset(cnv, UNTOUCHED, sizeof(cnv));
+  memset(volume_cnv, UNTOUCHED, sizeof(volume_cnv));
+  memset(seq, UNTOUCHED, sizeof(seq));
+  memset(volume_seq, UNTOUCHED, sizeof(volume_seq));
+}
+
+/* the whole mount of the bytes as they are made up now, which is kept, and the tables as before any; conventional zones are one file or two */
+static void keep_whole(const char *options, unsigned features) {
+  super_block[88] = (uint8_t)features;
+  sign();
+  clear_tables();
+  mount_of("whole", BLOCK, 4096, options, sizeof(report), 0);
+  memcpy(whole_mount, mount_words, sizeof(whole_mount));
+  memcpy(whole_account, account, sizeof(whole_account));
+  memcpy(whole_cnv, cnv, sizeof(whole_cnv));
+  memcpy(whole_seq, seq, sizeof(whole_seq));
+  clear_tables();
+}
+
+/* so many files of each kind have their rows, as the whole mount gives them, and nothing else was written */
+static void need_stored(const char *what, size_t cnv_files, size_t seq_files) {
+  size_t c = cnv_files * ROW, q = seq_files * ROW;
+  need(same_words(cnv, whole_cnv, c) && same_words(seq, whole_seq, q), what, "other rows than those of the whole mount");
+  need(untouched(cnv + c, (CNV_WORDS - c) * sizeof(*cnv)), what, "a row of cnv should be as it was");
+  need(untouched(seq + q, (SEQ_WORDS - q) * sizeof(*seq)), what, "a row of seq should be as it was");
+}
+
+/* the mount is refused: pieces answer alike from then on, whatever they bring, and so does the end, which leaves no mount */
+static void need_refused(const char *what, uint64_t number, size_t cnv_files, size_t seq_files) {
+  static const uint64_t zeros[11] = {0};
+  uint64_t before[38], answer[7];
+  memcpy(before, pieces, sizeof(before));
+  memcpy(answer, words, sizeof(answer));
+  need_stored(what, cnv_files, seq_files);
+  piece_of(what, report, sizeof(report), number);
+  need(same_words(words, answer, 7), what, "other values in a further piece");
+  piece_of(what, report, 0, number);
+  end_of(what, number);
+  need(same_words(words, answer, 7), what, "other values at the end");
+  need(same_words(mount_words, zeros, 11) && same_words(account, zeros, 4), what, "the end should leave no mount");
+  need(same_words(pieces, before, 38), what, "the pieces words should stay");
+  need_stored(what, cnv_files, seq_files);
+  show(1, 0, 10);
+}
+
+/* pieces of so many bytes each, up to those that come to the whole report or to a refusal */
+static void feed(const char *what, size_t length, size_t bytes) {
+  size_t at, count;
+  for (at = 0; at < bytes; at += count) {
+    count = bytes - at < length ? bytes - at : length;
+    piece_of(what, report + at, count, 0);
+  }
+}
+
+/* pieces of any length come to what the whole mount does; an end can be had twice */
+static void try_cuts(unsigned features, size_t cnv_files) {
+  static const size_t lengths[] = {1, 7, 15, 16, 17, 63, 64, 65, 80, 128, 399, 400};
+  size_t i;
+  open_limit = 1;
+  active_limit = 2;
+  keep_whole("errors=repair,explicit-open", features);
+  need(words[1] == cnv_files && words[2] == 3, "whole", "other numbers of files than expected");
+  for (i = 0; i < sizeof(lengths) / sizeof(lengths[0]); i++) {
+    unsigned ends;
+    clear_tables();
+    begin_of("begin", BLOCK, 4096, "errors=repair,explicit-open", 0);
+    feed("piece", lengths[i], sizeof(report));
+    piece_of("no bytes", report, 0, 0);
+    for (ends = 0; ends < 2; ends++) {
+      end_of("end", 0);
+      need(words[1] == cnv_files && words[2] == 3, "end", "other numbers of files than expected");
+      need(same_words(mount_words, whole_mount, 11) && same_words(account, whole_account, 4), "end", "another mount than the whole one");
+    }
+    need_stored("end", cnv_files, 3);
+    show(1, 0, 0);
+  }
+  piece_of("byte behind the end", report, 1, 28);
+  need_refused("byte behind the end", 28, cnv_files, 3);
+  open_limit = 0;
+  active_limit = 0;
+  make_super_block();
+}
+
+/* words that hold no mount that was begun: nothing is written, not even the answer words */
+static void need_unbegun(const char *what) {
+  memset(words, UNTOUCHED, sizeof(words));
+  piece_of(what, report, sizeof(report), 10);
+  end_of(what, 10);
+  need(untouched(words, sizeof(words)), what, "the answer words should be as they were");
+}
+
+/* of the super block as it is made up now, which is then made anew; a good beginning goes before, of which nothing is to be left */
+static void refuse_begin(const char *what, const char *options, uint64_t expected) {
+  uint8_t as_made[4096];
+  memcpy(as_made, super_block, sizeof(as_made));
+  make_super_block();
+  begin_of("good beginning", BLOCK, 4096, "", 0);
+  memcpy(super_block, as_made, sizeof(super_block));
+  begin_of(what, BLOCK, 4096, options, expected);
+  need_unbegun(what);
+  make_super_block();
+}
+
+static void try_refused_begins(void) {
+  begin_of("block to begin with", 1024, 4096, "", 20);
+  need_unbegun("block to begin with");
+  begin_of("super block's length to begin with", BLOCK, 4097, "", 21);
+  need_unbegun("super block's length to begin with");
+  super_block[1] = 0;
+  refuse_begin("magic to begin with", "", 22);
+  super_block[5] ^= 1;
+  refuse_begin("checksum to begin with", "", 23);
+  super_block[88] = 16;
+  sign();
+  refuse_begin("features to begin with", "", 24);
+  super_block[88] = 4;
+  put(super_block + 100, 0xFFFFFFFFu, 4);
+  sign();
+  refuse_begin("group to begin with", "", 25);
+  super_block[88] = 8;
+  put(super_block + 104, 01000, 4);
+  super_block[4095] = 1;
+  sign();
+  refuse_begin("perm to begin with", "", 33);
+  super_block[108] = 1;
+  sign();
+  refuse_begin("tail to begin with", "", 26);
+  refuse_begin("options to begin with", "errors=none", 27);
+}
+
+/* a bad header at its last byte, and not before; the zones that follow it in this piece are not looked at */
+static void refuse_header(const char *what, unsigned at, uint64_t value) {
+  keep_whole("", 0);
+  put(report + at, value, 4);
+  begin_of(what, BLOCK, 4096, "", 0);
+  piece_of(what, report, 15, 0);
+  piece_of(what, report + 15, sizeof(report) - 15, 28);
+  need_refused(what, 28, 0, 0);
+  make_report();
+}
+
+/* the mount of the report up to this zone, whose last byte is refused, by 29 with a reason; so many files of each kind are stored by then */
+static void refuse_zone(const char *what, unsigned zone, uint64_t number, uint64_t reason, size_t cnv_files, size_t seq_files) {
+  size_t last = 16 + (zone + 1) * 64 - 1;
+  begin_of(what, BLOCK, 4096, "", 0);
+  feed(what, 33, last);
+  need_stored(what, cnv_files, seq_files);
+  piece_of(what, report + last, sizeof(report) - last, number);
+  need(words[1] == (number == 29 ? zone : 0u) && words[2] == reason, what, "another zone or reason than expected");
+  if (number == 29)
+    pieces_reasons[words[2]]++;
+  need_refused(what, number, cnv_files, seq_files);
+}
+
+/* the files of the zones before a bad one are stored */
+static void try_bad_zones_in_pieces(void) {
+  size_t i;
+  for (i = 0; i < sizeof(zone_fields) / sizeof(zone_fields[0]); i++) {
+    const struct bad_field *f = &zone_fields[i];
+    keep_whole("", 0);
+    put(report + 16 + f->zone * 64 + f->at, f->value, f->count);
+    refuse_zone(f->what, f->zone, 29, f->reason, f->zone > 3 ? 2 : f->zone - 1, f->zone > 3 ? f->zone - 3 : 0);
+    make_report();
+  }
+}
+
+/* with aggregation zones 1 and 2 are one file, and zone 3 finishes it: not where it is bad itself, but where it has no row */
+static void try_runs_in_pieces(void) {
+  keep_whole("", 1);
+  report[16 + 3 * 64 + 24] = 4;
+  refuse_zone("bad zone behind a run", 3, 29, 5, 0, 0);
+  make_report();
+  clear_tables();
+  lend(CNV_WORDS, ROW - 1);
+  begin_of("no row behind a run", BLOCK, 4096, "", 0);
+  feed("no row behind a run", 64, 16 + 4 * 64 - 1);
+  need_stored("no row behind a run", 0, 0);
+  piece_of("no row behind a run", report + 16 + 4 * 64 - 1, 1, 30);
+  need_refused("no row behind a run", 30, 1, 0);
+  lend(CNV_WORDS, SEQ_WORDS);
+  make_super_block();
+}
+
+static void try_few_rows_in_pieces(void) {
+  keep_whole("", 0);
+  lend(ROW - 1, SEQ_WORDS);
+  refuse_zone("no row for cnv/0", 1, 30, 0, 0, 0);
+  lend(CNV_WORDS - 1, SEQ_WORDS);
+  clear_tables();
+  refuse_zone("no row for cnv/1", 2, 30, 0, 1, 0);
+  lend(CNV_WORDS, SEQ_WORDS - 1);
+  clear_tables();
+  refuse_zone("no row for seq/2", 5, 30, 0, 2, 2);
+  lend(CNV_WORDS, SEQ_WORDS);
+}
+
+/* bytes that are missing at the end are refused there, and so they are when they come after all */
+static void try_early_ends(void) {
+  static const struct {
+    size_t bytes, cnv_files, seq_files;
+  } ends[] = {{0, 0, 0}, {15, 0, 0}, {16, 0, 0}, {80, 0, 0}, {208, 2, 0}, {399, 2, 2}};
+  size_t i;
+  for (i = 0; i < sizeof(ends) / sizeof(ends[0]); i++) {
+    keep_whole("", 0);
+    begin_of("early end", BLOCK, 4096, "", 0);
+    feed("early end", 50, ends[i].bytes);
+    end_of("early end", 28);
+    piece_of("bytes behind an early end", report + ends[i].bytes, sizeof(report) - ends[i].bytes, 28);
+    need_refused("early end", 28, ends[i].cnv_files, ends[i].seq_files);
+  }
+}
+
+/* too few words answer 10, and nothing is written */
+static void try_short_pieces(void) {
+  begin_of("good beginning", BLOCK, 4096, "", 0);
+  memset(words, UNTOUCHED, sizeof(words));
+  need(zonefs_begin(BLOCK, super_block, 4096, super_block, 0, 0, 0, pieces, 37, words, 7) == 10, "short pieces", "begin");
+  need(zonefs_piece(pieces, 37, report, 16, cnv, cnv_words, seq, seq_words, words, 7) == 10, "short pieces", "piece");
+  need(zonefs_piece(pieces, 38, report, 16, cnv, cnv_words, seq, seq_words, words, 6) == 10, "short answer", "piece");
+  need(zonefs_end(pieces, 37, mount_words, 11, account, 4, words, 7) == 10, "short pieces", "end");
+  need(zonefs_end(pieces, 38, mount_words, 10, account, 4, words, 7) == 10, "short mount words", "end");
+  need(zonefs_end(pieces, 38, mount_words, 11, account, 3, words, 7) == 10, "short account words", "end");
+  need(untouched(words, sizeof(words)), "short pieces", "the answer words should be as they were");
+  piece_of("whole report behind short words", report, sizeof(report), 0);
+  end_of("whole report behind short words", 0);
+}
+
+/* a struct of zeros has no rows, and null pointers; a piece of no bytes may have one too */
+static void try_pieces_without_tables(void) {
+  need_unbegun("pieces of zeros");
+  begin_of("nothing lent", BLOCK, 4096, "", 0);
+  need(zonefs_volume_piece(&volume_pieces, &volume, NULL, 0).outcome == ZONEFS_VOLUME_TAKEN, "no bytes", "should be taken");
+  piece_of("nothing lent", report, 16 + 64, 0);
+  piece_of("nothing lent", report + 16 + 64, 64, 30);
+  end_of("nothing lent", 30);
+}
+
+/* each number of a mount in pieces was seen there, and each reason */
+static void check_pieces(void) {
+  unsigned i;
+  for (i = 0; i < sizeof(pieces_seen) / sizeof(pieces_seen[0]); i++)
+    need((pieces_seen[i] > 0) == (i == 0 || i == 10 || (i >= 20 && i <= 30) || i == 33), "pieces", "another set of numbers than expected");
+  for (i = 0; i < 10; i++)
+    need((pieces_reasons[i] > 0) == (i >= 1 && i <= 7), "pieces", "another set of reasons than expected");
+}
+
+static void try_pieces(void) {
+  try_cuts(0, 2);
+  try_cuts(1, 1);
+  try_refused_begins();
+  refuse_header("sector of a header", 0, 8);
+  refuse_header("count of 0", 8, 0);
+  refuse_header("count above the most zones", 8, 65537);
+  refuse_header("flags of a header", 12, 2);
+  try_bad_zones_in_pieces();
+  try_runs_in_pieces();
+  try_few_rows_in_pieces();
+  try_early_ends();
+  try_short_pieces();
+  check_pieces();
+}
+
 /* ---- super blocks */
 
 /* values of which no two are the same, so that one in another's place shows */
@@ -1255,6 +1560,7 @@ int main(void) {
   /* a struct of zeros has no rows, and null pointers; beside it the plain functions are lent no words */
   try_unmounted();
   mount_as("nothing lent", "", 30);
+  try_pieces_without_tables();
 
   zonefs_volume_lend(&volume, volume_cnv, CNV_WORDS, volume_seq, SEQ_WORDS);
   lend(CNV_WORDS, SEQ_WORDS);
@@ -1269,6 +1575,7 @@ int main(void) {
   try_busy_files_on_remount();
   try_held_words();
   try_opens();
+  try_pieces();
   try_refused_formats();
   try_bad_first_zones();
   try_finishing();

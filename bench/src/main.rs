@@ -8,12 +8,15 @@ use reference::player::calls::{Call, Request};
 use reference::player::format::{format, FormatInput};
 use reference::player::mount::{mount, Input};
 use reference::player::types::{FileKind, Row, Volume, MAX_FILES};
-use zonefs::words::{self, ACCOUNT_WORDS, ANSWER_WORDS, MOUNT_WORDS, ROW_WORDS};
+use zonefs::words::{
+    self, ACCOUNT_WORDS, ANSWER_WORDS, MOST_FILES, MOST_ZONES, MOUNT_WORDS, PIECES_WORDS, ROW_WORDS,
+};
 
 /// Rounds; each measures all programs once, one after the other, and the median is what counts.
 const ROUNDS: usize = 15;
 
 const BLOCK: u64 = 4096;
+/// The zones of the volume that all but the mounts of the most zones are measured on; as many as a tape can have.
 const ZONES: u64 = 1023;
 /// Sectors in each zone: room for all the appends of a round.
 const ZONE_SECTORS: u64 = 1 << 24;
@@ -54,17 +57,18 @@ fn put(bytes: &mut [u8], at: usize, value: &[u8]) {
     bytes[at..at + value.len()].copy_from_slice(value);
 }
 
-/// A volume of 1,023 zones, the first half conventional, the others sequential and empty, without a limit.
-fn input(options: &[u8]) -> Input {
+/// A volume of so many zones, the first half conventional, the others sequential and empty, without a limit. It has no feature, so that no
+/// conventional zones are aggregated: each zone but the first is a file.
+fn input(zones: u64, options: &[u8]) -> Input {
     let mut super_block = vec![0; 4096];
     put(&mut super_block, 0, &0x5A4F_4653_u32.to_le_bytes());
     let sum = bytewise(&super_block);
     put(&mut super_block, 4, &sum.to_le_bytes());
-    let mut report = vec![0; 16 + 64 * ZONES as usize];
-    put(&mut report, 8, &(ZONES as u32).to_le_bytes());
-    for zone in 0..ZONES {
+    let mut report = vec![0; 16 + 64 * zones as usize];
+    put(&mut report, 8, &(zones as u32).to_le_bytes());
+    for zone in 0..zones {
         let at = 16 + 64 * zone as usize;
-        let conventional = zone <= ZONES / 2;
+        let conventional = zone <= zones / 2;
         put(&mut report, at, &(zone * ZONE_SECTORS).to_le_bytes());
         put(&mut report, at + 8, &ZONE_SECTORS.to_le_bytes());
         put(&mut report, at + 16, &(zone * ZONE_SECTORS).to_le_bytes());
@@ -82,17 +86,20 @@ struct Lent {
     cnv: Vec<u64>,
     seq: Vec<u64>,
     answer: [u64; ANSWER_WORDS],
+    pieces: [u64; PIECES_WORDS],
 }
 
 impl Lent {
-    fn new() -> Lent {
+    /// With so many rows in each table.
+    fn new(rows: usize) -> Lent {
         let (mount, account) = ([0; MOUNT_WORDS], [0; ACCOUNT_WORDS]);
-        let table = || vec![0; MAX_FILES * ROW_WORDS];
-        Lent { mount, account, cnv: table(), seq: table(), answer: [0; ANSWER_WORDS] }
+        let table = || vec![0; rows * ROW_WORDS];
+        let (answer, pieces) = ([0; ANSWER_WORDS], [0; PIECES_WORDS]);
+        Lent { mount, account, cnv: table(), seq: table(), answer, pieces }
     }
 
     fn mount(&mut self, input: &Input) -> u64 {
-        let Lent { mount, account, cnv, seq, answer } = self;
+        let Lent { mount, account, cnv, seq, answer, .. } = self;
         words::mount(
             u64::from(input.block),
             &input.super_block,
@@ -108,13 +115,26 @@ impl Lent {
         )
     }
 
+    /// The same with the report in pieces of so many bytes.
+    fn mount_in_pieces(&mut self, input: &Input, length: usize) -> u64 {
+        let Lent { mount, account, cnv, seq, answer, pieces } = self;
+        let (block, open_limit, active_limit) =
+            (u64::from(input.block), input.open_limit, input.active_limit);
+        let (super_block, options) = (&input.super_block, &input.options);
+        let mut numbers = words::begin(block, super_block, options, open_limit, active_limit, pieces, answer);
+        for bytes in input.report.chunks(length) {
+            numbers += words::piece(pieces, bytes, cnv, seq, answer);
+        }
+        numbers + words::end(pieces, mount, account, answer)
+    }
+
     fn write(&mut self, file: u32, offset: u64) -> u64 {
-        let Lent { mount, account, cnv, seq, answer } = self;
+        let Lent { mount, account, cnv, seq, answer, .. } = self;
         words::write(mount, account, cnv, seq, SEQ, file, offset, BLOCK, answer)
     }
 
     fn complete(&mut self, file: u32) -> u64 {
-        let Lent { mount, account, cnv, seq, answer } = self;
+        let Lent { mount, account, cnv, seq, answer, .. } = self;
         words::complete(mount, account, cnv, seq, SEQ, file, answer)
     }
 
@@ -124,13 +144,13 @@ impl Lent {
 
     /// With its completion.
     fn open(&mut self) -> u64 {
-        let Lent { mount, account, cnv, seq, answer } = self;
+        let Lent { mount, account, cnv, seq, answer, .. } = self;
         words::open(mount, account, cnv, seq, SEQ, ONE_FILE, answer) + self.complete(ONE_FILE)
     }
 
     /// With its completion.
     fn close(&mut self) -> u64 {
-        let Lent { mount, account, cnv, seq, answer } = self;
+        let Lent { mount, account, cnv, seq, answer, .. } = self;
         words::close(mount, account, cnv, seq, SEQ, ONE_FILE, answer) + self.complete(ONE_FILE)
     }
 }
@@ -249,7 +269,7 @@ fn checksums() -> (f64, f64) {
 
 fn mounts(input: &Input, checksum: (f64, f64)) {
     const TURNS: u64 = 100;
-    let mut lent = Lent::new();
+    let mut lent = Lent::new(MAX_FILES);
     let mut cnv = vec![Row::EMPTY; MAX_FILES];
     let mut seq = vec![Row::EMPTY; MAX_FILES];
     let mut library = || time(TURNS, |_| assert_eq!(black_box(lent.mount(black_box(input))), 0));
@@ -266,6 +286,38 @@ fn mounts(input: &Input, checksum: (f64, f64)) {
     let share = |part: f64, whole: f64| 100.0 * part / whole;
     let (library, other) = (share(checksum.0, times[0]), share(checksum.1, times[1]));
     println!("{:<66} {library:>10.0} %  {other:>10.0} %", "the checksum's share of that mount");
+}
+
+/// The time of a zone, and how much of the report that is, in gigabytes (10^9 bytes) a second.
+fn zone_line(what: &str, time: f64, input: &Input, pace: &str) {
+    let bytes = input.report.len() as f64 / MOST_ZONES as f64;
+    println!("{what:<66} {time:>10.1} ns {:>8.2} GB/s{pace}", bytes / time);
+}
+
+/// Of as many zones as there can be, with the report whole and in pieces: of a page, and of a mebibyte. All three leave the same.
+fn large_mounts() {
+    const TURNS: u64 = 20;
+    const LENGTHS: [usize; 2] = [4096, 1 << 20];
+    let input = &input(MOST_ZONES as u64, b"errors=repair");
+    let [mut whole, mut small, mut large] = [(); 3].map(|()| Lent::new(MOST_FILES));
+    assert_eq!(whole.mount(input), 0);
+    for (lent, length) in [(&mut small, LENGTHS[0]), (&mut large, LENGTHS[1])] {
+        assert_eq!(lent.mount_in_pieces(input, length), 0);
+        assert!(lent.mount == whole.mount && lent.account == whole.account, "the same mount");
+        assert!(lent.cnv == whole.cnv && lent.seq == whole.seq, "the same tables");
+    }
+    let in_pieces = |lent: &mut Lent, length| {
+        time(TURNS, |_| assert_eq!(black_box(lent.mount_in_pieces(black_box(input), length)), 0))
+    };
+    let mut at_once = || time(TURNS, |_| assert_eq!(black_box(whole.mount(black_box(input))), 0));
+    let mut by_page = || in_pieces(&mut small, LENGTHS[0]);
+    let mut by_mebibyte = || in_pieces(&mut large, LENGTHS[1]);
+    let zones = TURNS * MOST_ZONES as u64;
+    let times = medians(zones, &mut [&mut at_once, &mut by_page, &mut by_mebibyte]);
+    let pace = |time: f64| format!("   pace {:>5.2}   (target 0.70)", times[0] / time);
+    zone_line("a zone of a mount of 65,536, the report whole", times[0], input, "");
+    zone_line("the same in pieces of 4,096 bytes, beside the whole", times[1], input, &pace(times[1]));
+    zone_line("the same in pieces of 1 MiB, beside the whole", times[2], input, &pace(times[2]));
 }
 
 /// A super block in full use, made over other bytes, on a disk whose zone 0 is the volume's.
@@ -309,7 +361,7 @@ fn appending(
     library: impl Fn(&mut Lent, u64),
     reference: impl Fn(&mut Volume, u64),
 ) -> Vec<f64> {
-    let mut lent = Lent::new();
+    let mut lent = Lent::new(MAX_FILES);
     assert_eq!(lent.mount(input), 0);
     let (account, seq) = (lent.account, lent.seq.clone());
     let fresh = volume(input);
@@ -351,8 +403,8 @@ fn busy_appends(input: &Input) {
 /// A file with one block is opened and closed, both by commands, with their completions; that is a turn.
 fn opens() {
     const TURNS: u64 = 20_000;
-    let input = input(b"errors=repair,explicit-open");
-    let mut lent = Lent::new();
+    let input = input(ZONES, b"errors=repair,explicit-open");
+    let mut lent = Lent::new(MAX_FILES);
     assert_eq!(lent.mount(&input) + lent.open() + lent.append(0) + lent.close(), 0);
     let mut held = volume(&input);
     opening(&mut held, Request::Open);
@@ -372,8 +424,9 @@ fn opens() {
 fn main() {
     println!("{:<66} {:>13} {:>13}", "", "library", "other");
     let checksum = checksums();
-    let input = input(b"errors=repair");
+    let input = input(ZONES, b"errors=repair");
     mounts(&input, checksum);
+    large_mounts();
     formats(&input);
     appends(&input);
     busy_appends(&input);

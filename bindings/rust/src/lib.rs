@@ -3,8 +3,9 @@
 //! and then says how that went.
 //!
 //! A file is a zone, or a run of zones: `cnv/0`, `cnv/1`, .. in conventional zones, `seq/0`, .. in sequential ones, which are written
-//! at their end only. [`format`](format()) makes a disk's super block; [`Volume`] has the calls; [`Refusal`] is every way to say no, with the
-//! scope paper's numbers, and [`Reason`] what is bad of a zone; [`words`] has the functions of `include/zonefs.h` as they are, on slices.
+//! at their end only. [`format`](format()) makes a disk's super block; [`Volume`] has the calls; [`Pieces`] mounts where the zone report comes in
+//! pieces; [`Refusal`] is every way to say no, with the scope paper's numbers, and [`Reason`] what is bad of a zone; [`words`] has the functions of
+//! `include/zonefs.h` as they are, on slices.
 //!
 //! ```
 //! use zonefs::words::FEATURE_PERM;
@@ -74,8 +75,37 @@
 //! # Ok::<(), Refusal>(())
 //! ```
 //!
-//! Nothing here needs the standard library or a heap. Mounting, making or reading a super block, and a checksum take some
-//! 10 kB of stack, of which 8 KiB are the checksum's tables; everything else takes less than 1 kB. The archive that this crate
+//! A report of many zones need not be in memory all at once. It may come in pieces, cut anywhere, as that of a large disk does:
+//!
+//! ```
+//! use zonefs::{Pieces, PiecesSource, Refusal, EMPTY_ROW};
+//! # use zonefs::{format, Format};
+//! # let mut report = [0; 16 + 2 * 64];
+//! # report[8] = 2;
+//! # report[16 + 8] = 64;
+//! # report[16 + 24] = 1;
+//! # let zone = &mut report[80..];
+//! # (zone[0], zone[8], zone[16], zone[24], zone[25]) = (64, 64, 64, 2, 1);
+//! # let mut super_block = [0; 4096];
+//! # let (uuid, record) = ([0; 16], &report[16..80]);
+//! # let wanted =
+//! #     Format { block: 4096, label: b"", uuid, features: 0, owner: 0, group: 0, mode: 0, record, capacity_given: false };
+//! # format(&wanted, &mut super_block)?;
+//!
+//! let source =
+//!     PiecesSource { block: 4096, super_block: &super_block, options: b"errors=repair", open_limit: 0, active_limit: 0 };
+//! let (mut cnv, mut seq) = ([EMPTY_ROW; 4], [EMPTY_ROW; 4]);
+//! let mut pieces = Pieces::begin(&source)?;
+//! for bytes in report.chunks(50) {
+//!     pieces.piece(bytes, &mut cnv, &mut seq)?;
+//! }
+//! let volume = pieces.end(&mut cnv[..], &mut seq[..])?;
+//! assert_eq!(volume.show(volume.find("seq/0")?)?.start, 64);
+//! # Ok::<(), Refusal>(())
+//! ```
+//!
+//! Nothing here needs the standard library or a heap. Mounting, beginning a mount in pieces, making or reading a super block, and a checksum
+//! take some 10 kB of stack, of which 8 KiB are the checksum's tables; everything else takes less than 1 kB. The archive that this crate
 //! links is made by `rt staticlib capi`; the environment variable `ZONEFS_LIB_DIR` names its folder where that isn't
 //! `target/staticlib` of the repository.
 //!
@@ -89,6 +119,7 @@
 mod answer;
 mod codes;
 mod format;
+mod pieces;
 mod reason;
 mod refusal;
 mod values;
@@ -100,8 +131,9 @@ mod tests;
 
 pub use codes::{Access, CommandKind, Condition, FileKind, Policy};
 pub use format::{format, super_fields, Format, Formatted, SuperFields};
+pub use pieces::Pieces;
 pub use reason::Reason;
 pub use refusal::Refusal;
-pub use values::{Account, Command, File, FileId, MountValue, Reply, Source};
+pub use values::{Account, Command, File, FileId, MountValue, PiecesSource, Reply, Source};
 pub use volume::{RowWords, Volume, EMPTY_ROW};
 pub use words::checksum;

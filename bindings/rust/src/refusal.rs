@@ -20,7 +20,7 @@ macro_rules! refusals {
     )*) => {
         /// Why the library refuses. The numbers are those of the scope paper and of `include/zonefs.h`.
         ///
-        /// All but [`Refusal::Failed`] change nothing.
+        /// All but [`Refusal::Failed`] change nothing; but rows of files that a mount in pieces has finished before stay stored.
         #[derive(Clone, Copy, Debug, PartialEq, Eq, Hash)]
         #[repr(u8)]
         #[non_exhaustive]
@@ -78,7 +78,7 @@ refusals! {
         /// What is bad of the record.
         reason: Reason = Reason::from_code, ANSWER_RECORD_REASON;
     }, BAD_RECORD, "the zone record doesn't fit the file, so the command stays outstanding: {reason}";
-    10 Impossible, IMPOSSIBLE, "the mount value, the account or a table is impossible";
+    10 Impossible, IMPOSSIBLE, "the mount value, the account, a table or a mount in pieces is impossible";
     11 OpenLimit, OPEN_LIMIT, "as many files are open as may be";
     12 ActiveLimit, ACTIVE_LIMIT, "as many files are active as may be";
     13 NotOpen, NOT_OPEN, "the file is not open";

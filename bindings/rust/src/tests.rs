@@ -2,10 +2,11 @@
 
 use std::collections::BTreeMap;
 
-use crate::words::{ACCOUNT_WORDS, ANSWER_WORDS, CONSTANTS, FUNCTIONS, MOUNT_WORDS};
+use crate::words::{ACCOUNT_WORDS, ANSWER_WORDS, CONSTANTS, FUNCTIONS, MOUNT_WORDS, PIECES_WORDS, ROW_WORDS};
 use crate::{codes, reason, refusal};
 use crate::{format, super_fields, Format, Formatted, SuperFields};
 use crate::{Account, Command, CommandKind, FileId, FileKind, MountValue, Policy, Reason, Refusal};
+use crate::{Pieces, PiecesSource, RowWords, Source, Volume};
 
 /// The header without its comments.
 fn header() -> String {
@@ -99,7 +100,7 @@ fn functions_are_the_headers() {
         })
         .collect();
     assert_eq!(ours, header_functions());
-    assert!(ours.len() >= 14, "only {} functions were found", ours.len());
+    assert!(ours.len() >= 17, "only {} functions were found", ours.len());
 }
 
 #[test]
@@ -321,4 +322,262 @@ fn refused_formats_leave_the_block() {
         assert_eq!(super_block, [0xA5; 4096], "{refusal}");
     }
     assert_eq!(format(&good, &mut [0; 4095]), Err(Refusal::SuperLength));
+}
+
+/// Fills a table, to see which rows are written.
+const UNTOUCHED: RowWords = [0xA5; ROW_WORDS];
+
+/// Seven zones of 64 sectors, blocks of 4,096 bytes: three conventional ones, of which the first is no file, a sequential one with one block, a
+/// full one, and two conventional ones. With aggregation the files are two runs of two zones, and two seq files.
+fn seven_zones() -> Vec<u8> {
+    let zones = [(1, 0, 0), (1, 0, 0), (1, 0, 0), (2, 2, 8), (2, 14, 0), (1, 0, 0), (1, 0, 0)];
+    let mut report = vec![0; 16];
+    report[8] = 7;
+    for (start, (kind, condition, written)) in (0_u64..).step_by(64).zip(zones) {
+        let mut record = [0; 64];
+        record[..8].copy_from_slice(&start.to_le_bytes());
+        record[8] = 64;
+        record[16..24].copy_from_slice(&(start + written).to_le_bytes());
+        (record[24], record[25]) = (kind, condition);
+        report.extend(record);
+    }
+    report
+}
+
+/// A super block with these features, and otherwise the values of [`wanted`].
+fn super_block(features: u64) -> [u8; 4096] {
+    let mut made = [0; 4096];
+    let record = first_zone(1, 0);
+    assert!(format(&Format { features, ..wanted(&record) }, &mut made).is_ok());
+    made
+}
+
+fn begin(super_block: &[u8]) -> Result<Pieces, Refusal> {
+    let options = b"errors=repair,explicit-open";
+    Pieces::begin(&PiecesSource { block: 4096, super_block, options, open_limit: 3, active_limit: 4 })
+}
+
+/// The mount of the whole report, with room for so many files of each kind.
+fn whole(super_block: &[u8], report: &[u8], rows: (usize, usize)) -> Result<Volume<Vec<RowWords>>, Refusal> {
+    let options = b"errors=repair,explicit-open";
+    let source = Source { block: 4096, super_block, options, report, open_limit: 3, active_limit: 4 };
+    Volume::mount(&source, vec![UNTOUCHED; rows.0], vec![UNTOUCHED; rows.1])
+}
+
+/// The mount in pieces of these bytes, with room for five files of each kind.
+fn in_pieces<'a>(
+    super_block: &[u8],
+    pieces: impl IntoIterator<Item = &'a [u8]>,
+) -> Result<Volume<Vec<RowWords>>, Refusal> {
+    let (mut cnv, mut seq) = (vec![UNTOUCHED; 5], vec![UNTOUCHED; 5]);
+    let mut mount = begin(super_block)?;
+    for bytes in pieces {
+        mount.piece(bytes, &mut cnv, &mut seq)?;
+    }
+    mount.end(cnv, seq)
+}
+
+/// With every cut in two, and in pieces of every length up to more than a record, it is the same volume, rows past the files included.
+#[test]
+fn pieces_give_the_whole_volume() {
+    let report = seven_zones();
+    for features in [0, 1] {
+        let super_block = super_block(features);
+        let expected = whole(&super_block, &report, (5, 5)).expect("a good report");
+        let value = expected.value().expect("a mount value");
+        assert_eq!((value.cnv_files, value.seq_files), if features == 0 { (4, 2) } else { (2, 2) });
+        for cut in 0..=report.len() {
+            let (front, back) = report.split_at(cut);
+            assert_eq!(in_pieces(&super_block, [front, back]).as_ref(), Ok(&expected), "cut at {cut}");
+        }
+        for length in 1..=130 {
+            let volume = in_pieces(&super_block, report.chunks(length));
+            assert_eq!(volume.as_ref(), Ok(&expected), "pieces of {length}");
+        }
+    }
+    let volume = in_pieces(&super_block(1), [&report[..]]).expect("a good report");
+    assert_eq!(volume.table(FileKind::Conventional)[1], [320, 65536, 65536, 0, 2, 0, 0, 0, 0]);
+    assert_eq!(volume.table(FileKind::Sequential)[0], [192, 32768, 4096, 0, 2, 0, 0, 0, 0]);
+    let account = Account { open: 0, active: 1, open_limit: 3, active_limit: 4 };
+    assert_eq!(volume.account(), Some(account));
+}
+
+/// A report of [`seven_zones`] with bytes set, and what becomes of it with aggregation: room for the files, the refusal, after how many bytes it comes,
+/// and how many files of each kind are stored by then.
+struct Fault {
+    set: Vec<(usize, u8)>,
+    rows: (usize, usize),
+    refusal: Refusal,
+    bytes: usize,
+    stored: (usize, usize),
+}
+
+/// Where a zone's record ends.
+const fn behind(zone: usize) -> usize {
+    16 + 64 * (zone + 1)
+}
+
+/// Feeds one byte at a time; then the rest, and the end, are refused alike and change nothing.
+fn check_fault(fault: &Fault) {
+    let &Fault { ref set, rows, refusal, bytes, stored } = fault;
+    let what = format!("{refusal}, after {bytes} bytes");
+    let (super_block, mut report) = (super_block(1), seven_zones());
+    let good = whole(&super_block, &report, (2, 2)).expect("a good report");
+    set.iter().for_each(|&(at, byte)| report[at] = byte);
+    report.push(0);
+    let (mut cnv, mut seq) = (vec![UNTOUCHED; rows.0], vec![UNTOUCHED; rows.1]);
+    let mut mount = begin(&super_block).expect("a good beginning");
+    for &byte in &report[..bytes - 1] {
+        assert_eq!(mount.piece(&[byte], &mut cnv, &mut seq), Ok(()), "{what}");
+    }
+    assert_eq!(mount.piece(&report[bytes - 1..bytes], &mut cnv, &mut seq), Err(refusal));
+    for (table, kind, stored) in
+        [(&cnv, FileKind::Conventional, stored.0), (&seq, FileKind::Sequential, stored.1)]
+    {
+        assert_eq!(table[..stored], good.table(kind)[..stored], "{what}");
+        assert!(table[stored..].iter().all(|row| *row == UNTOUCHED), "{what}");
+    }
+    let (words, left) = (*mount.words(), (cnv.clone(), seq.clone()));
+    assert_eq!(mount.end(vec![UNTOUCHED], vec![UNTOUCHED]), Err(refusal));
+    for further in [&report[..], &report[bytes..], &[]] {
+        assert_eq!(mount.piece(further, &mut [UNTOUCHED; 9], &mut [UNTOUCHED; 9]), Err(refusal), "{what}");
+        assert_eq!(mount.piece(further, &mut cnv, &mut seq), Err(refusal), "{what}");
+    }
+    assert_eq!((mount.words(), (cnv, seq)), (&words, left), "{what}");
+}
+
+#[test]
+fn first_faults_come_at_their_byte() {
+    const ROOM: (usize, usize) = (4, 4);
+    let report = |set, bytes, stored| Fault { set, rows: ROOM, refusal: Refusal::BadReport, bytes, stored };
+    let zone = |zone, at, byte, reason, stored| {
+        let (set, bytes) = (vec![(behind(zone) - 64 + at, byte)], behind(zone));
+        Fault { set, rows: ROOM, refusal: Refusal::BadZone { zone: zone as u64, reason }, bytes, stored }
+    };
+    let no_row = |rows, zone, stored| {
+        let (set, bytes) = (Vec::new(), behind(zone));
+        Fault { set, rows, refusal: Refusal::TooFewRows, bytes, stored }
+    };
+    let faults = [
+        report(vec![(0, 1)], 16, (0, 0)),
+        report(vec![(7, 1)], 16, (0, 0)),
+        report(vec![(8, 0)], 16, (0, 0)),
+        report(vec![(8, 1), (10, 1)], 16, (0, 0)), // 65,537 zones
+        report(vec![(11, 1)], 16, (0, 0)),
+        report(vec![(12, 2)], 16, (0, 0)),
+        report(vec![], behind(6) + 1, (2, 2)),
+        zone(0, 25, 14, Reason::Condition, (0, 0)),
+        zone(2, 0, 1, Reason::Start, (0, 0)),
+        zone(3, 24, 9, Reason::Type, (0, 0)),
+        zone(4, 25, 0, Reason::Condition, (1, 1)),
+        zone(6, 8, 63, Reason::Length, (1, 2)),
+        no_row((0, 4), 1, (0, 0)),
+        no_row((4, 0), 3, (1, 0)),
+        no_row((4, 1), 4, (1, 1)),
+        no_row((1, 4), 5, (1, 2)),
+    ];
+    faults.iter().for_each(check_fault);
+}
+
+/// Missing bytes are no fault before the end, and there is no way on afterwards, not even with them.
+#[test]
+fn ends_that_come_too_early() {
+    let (super_block, report) = (super_block(0), seven_zones());
+    for length in 0..report.len() {
+        let (mut cnv, mut seq) = ([UNTOUCHED; 4], [UNTOUCHED; 4]);
+        let mut mount = begin(&super_block).expect("a good beginning");
+        assert_eq!(mount.piece(&report[..length], &mut cnv, &mut seq), Ok(()));
+        let left = (cnv, seq);
+        assert_eq!(mount.end(vec![], vec![]), Err(Refusal::BadReport), "after {length} bytes");
+        assert_eq!(mount.piece(&report[length..], &mut cnv, &mut seq), Err(Refusal::BadReport));
+        assert_eq!(mount.end(vec![], vec![]), Err(Refusal::BadReport), "after {length} bytes, again");
+        assert_eq!((cnv, seq), left);
+    }
+}
+
+/// An end leaves what it has ended: a second gives the same, no bytes are taken, and one more is too many.
+#[test]
+fn ends_that_come_twice() {
+    let (super_block, report) = (super_block(1), seven_zones());
+    let (mut cnv, mut seq) = (vec![UNTOUCHED; 2], vec![UNTOUCHED; 2]);
+    let mut mount = begin(&super_block).expect("a good beginning");
+    assert_eq!(mount.piece(&report, &mut cnv, &mut seq), Ok(()));
+    let first = mount.end(cnv.clone(), seq.clone());
+    assert_eq!(first, whole(&super_block, &report, (2, 2)));
+    assert_eq!(mount.piece(&[], &mut cnv, &mut seq), Ok(()));
+    assert_eq!(mount.end(cnv.clone(), seq.clone()), first);
+    assert_eq!(mount.piece(&[0], &mut cnv, &mut seq), Err(Refusal::BadReport));
+    assert_eq!(mount.end(cnv, seq), Err(Refusal::BadReport));
+}
+
+/// The tables may be others from piece to piece: a row is stored in those that are lent when its file is finished, or the answer is 30.
+#[test]
+fn tables_that_are_shorter_later() {
+    let (super_block, report) = (super_block(1), seven_zones());
+    let mut mount = begin(&super_block).expect("a good beginning");
+    let mut cnv = [UNTOUCHED];
+    assert_eq!(mount.piece(&report[..behind(2)], &mut cnv, &mut []), Ok(()));
+    let mut later = mount.clone();
+    let mut seq = [UNTOUCHED; 2];
+    assert_eq!(mount.piece(&report[behind(2)..], &mut [], &mut seq), Err(Refusal::TooFewRows));
+    assert_eq!((cnv, seq), ([UNTOUCHED], [UNTOUCHED; 2]));
+    let mut other = [UNTOUCHED; 2];
+    assert_eq!(later.piece(&report[behind(2)..], &mut other, &mut seq), Ok(()));
+    let good = whole(&super_block, &report, (2, 2)).expect("a good report");
+    assert_eq!(other, good.table(FileKind::Conventional));
+    assert_eq!(seq, good.table(FileKind::Sequential));
+    assert_eq!(cnv, [UNTOUCHED]);
+}
+
+/// What is refused before the report is refused at the beginning, by the same number.
+#[test]
+fn refused_beginnings_are_those_of_the_whole_mount() {
+    let (good, report) = (super_block(15), seven_zones());
+    let signed = |from: usize, bytes: &[u8]| {
+        let mut changed = good;
+        changed[from..from + bytes.len()].copy_from_slice(bytes);
+        changed[4..8].fill(0);
+        let sum = crate::checksum(&changed);
+        changed[4..8].copy_from_slice(&sum.to_le_bytes());
+        changed
+    };
+    let unsigned = |at: usize| {
+        let mut changed = good;
+        changed[at] ^= 1;
+        changed
+    };
+    let cases: [(u64, &[u8], &[u8], u64); 12] = [
+        (1024, &good, b"", 20),
+        (4096, &good[1..], b"", 21),
+        (4096, &unsigned(0), b"", 22),
+        (4096, &unsigned(7), b"", 23),
+        (4096, &signed(89, &[1]), b"", 24),
+        (4096, &signed(96, &[255; 4]), b"", 25),
+        (4096, &signed(104, &[0, 2]), b"", 33),
+        (4096, &signed(4095, &[1]), b"", 26),
+        (4096, &good, b"errors=none", 27),
+        (1024, &unsigned(0), b"errors=none", 20),
+        (4096, &signed(89, &[1]), b"errors=none", 24),
+        (512, &good, b"errors=repair", 0),
+    ];
+    for (block, super_block, options, number) in cases {
+        let begun =
+            Pieces::begin(&PiecesSource { block, super_block, options, open_limit: 0, active_limit: 0 });
+        let source = Source { block, super_block, options, report: &report, open_limit: 0, active_limit: 0 };
+        let mounted = Volume::mount(&source, vec![UNTOUCHED; 4], vec![UNTOUCHED; 4]);
+        assert_eq!(begun.map(|_| ()).map_err(Refusal::number).err().unwrap_or(0), number);
+        assert_eq!(mounted.map(|_| ()).map_err(Refusal::number).err().unwrap_or(0), number);
+    }
+}
+
+/// Words that hold no mount that was begun.
+#[test]
+fn pieces_of_no_mount() {
+    let mut none = Pieces::from_words([0; PIECES_WORDS]);
+    let mut table = [UNTOUCHED];
+    assert_eq!(none.piece(&seven_zones(), &mut table, &mut [UNTOUCHED]), Err(Refusal::Impossible));
+    assert_eq!(none.end(vec![], vec![]), Err(Refusal::Impossible));
+    assert_eq!((none.words(), table), (&[0; PIECES_WORDS], [UNTOUCHED]));
+    let begun = begin(&super_block(0)).expect("a good beginning");
+    assert_eq!(Pieces::from_words(*begun.words()), begun);
 }

@@ -24,6 +24,21 @@ pub struct Source<'a> {
     pub active_limit: u32,
 }
 
+/// What a mount in pieces begins with: a [`Source`] without its report.
+#[derive(Clone, Copy, Debug)]
+pub struct PiecesSource<'a> {
+    /// The block in bytes, 512 or 4096.
+    pub block: u64,
+    /// The first 4,096 bytes of the disk.
+    pub super_block: &'a [u8],
+    /// The option text, such as `errors=repair` or `errors=repair,explicit-open`.
+    pub options: &'a [u8],
+    /// How many seq files may be open under `explicit-open`; 0 for no limit.
+    pub open_limit: u32,
+    /// How many seq files may be active under `explicit-open`, by opening one; 0 for no limit.
+    pub active_limit: u32,
+}
+
 /// A file: its kind, and its number among the files of that kind.
 #[derive(Clone, Copy, Debug, PartialEq, Eq, Hash)]
 pub struct FileId {

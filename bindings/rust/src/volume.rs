@@ -16,7 +16,7 @@ pub const EMPTY_ROW: RowWords = [0; ROW_WORDS];
 ///
 /// `T` is a table, with a [`RowWords`] for each file of a kind: anything that lends them, such as `&mut [RowWords]`, an array or a
 /// `Vec<RowWords>`. So the caller says where the tables are and how long, and none of this needs a heap.
-/// [`MOST_FILES`](words::MOST_FILES) rows are always enough.
+/// [`MOST_FILES`](words::MOST_FILES) rows are always enough, which are 4.7 megabytes; as many as the disk has files of the kind do, too.
 ///
 /// Each file may have one command outstanding, any number of files at once. Their commands end in any order: a completion names its file.
 #[derive(Clone, Debug, PartialEq, Eq)]

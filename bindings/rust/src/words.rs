@@ -2,13 +2,13 @@
 //!
 //! Nothing is demanded of what the slices hold, or of their lengths: each function answers for all of them. It returns
 //! 0 ([`OK`]) or the number of a [`Refusal`](crate::Refusal), and writes what it answers beside the number into `answer`: the number of
-//! values first, then the values, then zeros. Where mount words, account words or answer words are too short, the mount words hold no
-//! mount value, an account word is above 32 bits, or a uuid or the room for a label has another length than that has, the number is 10 and
-//! nothing is written.
+//! values first, then the values, then zeros. Where mount words, account words, pieces words or answer words are too short, the mount words hold no
+//! mount value, the pieces words no mount that was begun, an account word is above 32 bits, or a uuid or the room for a label has another length
+//! than that has, the number is 10 and nothing is written.
 //!
-//! [`Volume`](crate::Volume), [`format`](crate::format()) and [`super_fields`](crate::super_fields()) are the same functions with types; most
-//! programs want those. Codes in words are those of the enums [`FileKind`](crate::FileKind), [`CommandKind`](crate::CommandKind), [`Condition`](crate::Condition),
-//! [`Access`](crate::Access), [`Policy`](crate::Policy) and [`Reason`](crate::Reason).
+//! [`Volume`](crate::Volume), [`Pieces`](crate::Pieces), [`format`](crate::format()) and [`super_fields`](crate::super_fields()) are the same functions
+//! with types; most programs want those. Codes in words are those of the enums [`FileKind`](crate::FileKind), [`CommandKind`](crate::CommandKind),
+//! [`Condition`](crate::Condition), [`Access`](crate::Access), [`Policy`](crate::Policy) and [`Reason`](crate::Reason).
 
 /// A slice as C takes it: a pointer, and the number of elements behind it.
 trait Lent {
@@ -105,6 +105,38 @@ functions! {
         active_limit: u32,
         [cnv: &mut [u64]],
         [seq: &mut [u64]],
+        [mount: &mut [u64]],
+        [account: &mut [u64]],
+        [answer: &mut [u64]],
+    ) -> u64;
+
+    /// Begins a mount whose report comes in pieces: reads what [`mount`] reads before the report, and writes the pieces words. Answers 0 with no value;
+    /// or 10, 20 to 27, 33, in the order of [`mount`]. Refused by 20 to 27 or 33, the pieces words hold no mount that was begun.
+    fn begin = zonefs_begin(
+        block: u64,
+        [superblock: &[u8]],
+        [options: &[u8]],
+        open_limit: u32,
+        active_limit: u32,
+        [pieces: &mut [u64]],
+        [answer: &mut [u64]],
+    ) -> u64;
+
+    /// Takes the report's next bytes, any number of them, also none. Writes the pieces words and the rows of the files that are finished in this piece,
+    /// each at its number. Answers 0 with no value; or 10; or, at the first byte that shows it, 28, 29 with a zone and its reason, or 30. Refused by
+    /// these, rows of files that were finished before stay as they were stored, and every further piece and the end are refused alike.
+    fn piece = zonefs_piece(
+        [pieces: &mut [u64]],
+        [bytes: &[u8]],
+        [cnv: &mut [u64]],
+        [seq: &mut [u64]],
+        [answer: &mut [u64]],
+    ) -> u64;
+
+    /// Ends a mount in pieces, and writes the mount words and the account words. Answers 0 with the numbers of cnv and of seq files; or 10; or 28,
+    /// where bytes are missing; or what a piece was refused by. Refused by 28 to 30, mount words and account words are all 0.
+    fn end = zonefs_end(
+        [pieces: &mut [u64]],
         [mount: &mut [u64]],
         [account: &mut [u64]],
         [answer: &mut [u64]],
@@ -261,9 +293,11 @@ constants! {
     ROW_WORDS: usize = 9;
     /// The words of an answer.
     ANSWER_WORDS: usize = 7;
+    /// The words of a mount in pieces.
+    PIECES_WORDS: usize = 39;
 
     /// The most files of a kind: tables of this many rows are always long enough.
-    MOST_FILES: usize = 1022;
+    MOST_FILES: usize = 65535;
     /// The most opens of one file.
     MOST_OPENS: u64 = 65535;
     /// The bytes of a super block.
@@ -277,7 +311,7 @@ constants! {
     /// The bytes of a zone record.
     ZONE_BYTES: usize = 64;
     /// The most zones of a report.
-    MOST_ZONES: usize = 1023;
+    MOST_ZONES: usize = 65536;
 
     /// A super block's features: each run of neighbouring conventional zones is one file.
     FEATURE_AGGREGATE: u64 = 1;
@@ -323,13 +357,13 @@ constants! {
     ANSWER_NEW_SIZE: usize = 1;
     /// A record refused by 9: the reason.
     ANSWER_RECORD_REASON: usize = 1;
-    /// A mount: how many cnv files there are.
+    /// A mount, or the end of one in pieces: how many cnv files there are.
     ANSWER_CNV_FILES: usize = 1;
-    /// A mount: how many seq files there are.
+    /// A mount, or the end of one in pieces: how many seq files there are.
     ANSWER_SEQ_FILES: usize = 2;
-    /// A mount refused by 29: the lowest number of a bad zone. A super block not made because of 29: 0.
+    /// A mount or a piece refused by 29: the lowest number of a bad zone. A super block not made because of 29: 0.
     ANSWER_ZONE: usize = 1;
-    /// A mount refused by 29, or a super block not made because of it: the reason.
+    /// A mount or a piece refused by 29, or a super block not made because of it: the reason.
     ANSWER_ZONE_REASON: usize = 2;
     /// A super block made: 1 where zone 0 must first be finished, else 0.
     ANSWER_FINISH: usize = 1;
