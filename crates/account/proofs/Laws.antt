@@ -57,7 +57,7 @@ module _ (test : Row → Bool) where
   ]
 
   -- a row that is stored past those counted makes no difference
-  past : (t : List ℕ) (i : ℕ) (r : Row) (n : ℕ) → n ≤ i → countIn test (setRow t i r) n ≡ countIn test t n
+  pub past : (t : List ℕ) (i : ℕ) (r : Row) (n : ℕ) → n ≤ i → countIn test (setRow t i r) n ≡ countIn test t n
   unfolding countIn
   past t i r zero h = refl
   past t i r (suc n) h = let d : i ≢ n = (λ q. omega arith) in rw (past t i r n (omega arith), rowAt-other t i n r d)

@@ -2,7 +2,7 @@
 -- Assumes nothing.
 use Prim.Native.Nat.{ℕ, _+_, _^_, _≤_, _<_}
 use native.Mathlib.Omega.{arith}
-use mathlib.Core.Path.{_≡_, refl}
+use mathlib.Core.Path.{_≡_}
 use mathlib.Core.Bool.{Bool, true, false, cond, _&&_}
 use mathlib.Core.List.{List, [], _∷_}
 use borrow.Author.Tests.{leb-true, leb-false, le-leb, ltb-true, lt-ltb, eqb-true, eqb-false}
@@ -18,9 +18,8 @@ use Rattle.intake.specs.declared.Intake.{Intake}
 use Rattle.intake.specs.Steps.{Taking}
 use Rattle.intake.specs.Facts.{BoundedIntake}
 use Rattle.intake.proofs.Bounds.{nothing-bounded, refused-bounded, header-bounded, zone-kept}
-use Rattle.pieces.specs.declared.Received.{Received}
 use Rattle.pieces.specs.declared.Pieces.{Pieces}
-use Rattle.pieces.specs.Bytes.{Receiving, unitBytes, complete, unitTaken, wholly, nothingReceived, between, collected, extra, byteAfter, byteTaken, fed}
+use Rattle.pieces.specs.Bytes.{Receiving, unitBytes, complete, unitTaken, wholly, nothingReceived, collected, byteAfter, byteTaken, fed}
 use Rattle.pieces.specs.Facts.{BoundedReceived}
 use Rattle.pieces.specs.Pieces.{possiblePieces}
 
@@ -104,24 +103,23 @@ module _ (p : Pieces) where
       told (goodBlock (p .mount .volume .block)) (leb (i .count) mostZones) (leb (w .number) (i .count)) (leb (w .expected) (2 ^ 40))
       (leb (w .run .capacity) (w .expected)) (leb (w .cnvs) (w .number)) (leb (w .seqs) (w .number)) (leb (i .active) (w .seqs)) (ltb (x .held) (unitBytes i)) h in
       let few : i .count ≤ mostZones = leb-true _ _ (t .1) in
-      let inside : w .number ≤ i .count = leb-true _ _ (t .2) in (
-        t .0,
-        record {
-          intake = record {
-            walk = record {
-              number = omega arith;
-              expected = leb-true _ _ (t .3);
-              run = leb-true _ _ (t .4);
-              cnvs = leb-true _ _ (t .5);
-              seqs = leb-true _ _ (t .6);
-            };
-            count = few;
-            number = inside;
-            active = leb-true _ _ (t .7);
+      let inside : w .number ≤ i .count = leb-true _ _ (t .2) in
+      (t .0,
+      record {
+        intake = record {
+          walk = record {
+            number = omega arith;
+            expected = leb-true _ _ (t .3);
+            run = leb-true _ _ (t .4);
+            cnvs = leb-true _ _ (t .5);
+            seqs = leb-true _ _ (t .6);
           };
-          held = ltb-true _ _ (t .8);
-        },
-      )
+          count = few;
+          number = inside;
+          active = leb-true _ _ (t .7);
+        };
+        held = ltb-true _ _ (t .8);
+      })
 
   pub possible-given : goodBlock (p .mount .volume .block) ≡ true → BoundedReceived (p .received) → possiblePieces p ≡ true
   unfolding possiblePieces

@@ -12,7 +12,7 @@ returns : tie.Need-returns
 returns c = rw (c .before .before .enum-told .given .1)
 
 returns-2 : tie.Need-returns-2
-returns-2 c = search needs
+returns-2 c = rw (c .enum-told2 .given .1)
 
 pub goes-on-spec : {M : Type 1} → statement M
 goes-on-spec = tie.close (tie.spec enum-told enum-told-2 returns returns-2)
