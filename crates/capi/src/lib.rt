@@ -7,6 +7,7 @@ ghost use Rattle.types.specs.declared.Call.{Call};
 ghost use Rattle.engine.specs.Engine.{Input};
 ghost use Rattle.step_words.specs.Words.{Completion, completionOf, stepWords};
 ghost use Rattle.mount_call_words.specs.Words.{mountGiven, findWords, showWords};
+ghost use Rattle.pieces_words.specs.Words.{beginGiven, pieceGiven, endGiven};
 ghost use Rattle.crc32.specs.Crc.{crc32};
 ghost use Rattle.format_words.specs.Words.{formatWords, fieldsWords};
 use types::Call;
@@ -210,6 +211,49 @@ pub extern "C" fn zonefs_mount(
         account,
         a,
     )
+}
+
+// Begins a mount whose report arrives in pieces: fills the words that are kept between them. A limit of 0 is none.
+#[no_mangle]
+pub extern "C" fn zonefs_begin(
+    block: u64,
+    superblock: &[u8],
+    options: &[u8],
+    open_limit: u32,
+    active_limit: u32,
+    w: &mut [u64],
+    a: &mut [u64],
+) -> u64
+    ensures { λ r. ⌜ beginGiven block (now (superblock .entry)) (now (options .entry)) «open_limit» «active_limit» (now (w .entry)) (now (a .entry)) ≡ record { number = r; pieces = now (w .exit); answer = now (a .exit) } ⌝ }
+{
+    pieces_words::begin(block, superblock, options, open_limit, active_limit, w, a)
+}
+
+// Takes a piece of the report: stores the rows of the files that it finishes.
+#[no_mangle]
+pub extern "C" fn zonefs_piece(
+    w: &mut [u64],
+    bytes: &[u8],
+    cnv: &mut [u64],
+    seq: &mut [u64],
+    a: &mut [u64],
+) -> u64
+    ensures { λ r. ⌜ pieceGiven (now (w .entry)) (now (bytes .entry)) (now (cnv .entry)) (now (seq .entry)) (now (a .entry)) ≡ record { number = r; pieces = now (w .exit); cnv = now (cnv .exit); seq = now (seq .exit); answer = now (a .exit) } ⌝ }
+{
+    pieces_words::piece(w, bytes, cnv, seq, a)
+}
+
+// Ends a mount in pieces: fills the words of the mount and of its account.
+#[no_mangle]
+pub extern "C" fn zonefs_end(
+    w: &mut [u64],
+    m: &mut [u64],
+    account: &mut [u64],
+    a: &mut [u64],
+) -> u64
+    ensures { λ r. ⌜ endGiven (now (w .entry)) (now (m .entry)) (now (account .entry)) (now (a .entry)) ≡ record { number = r; pieces = now (w .exit); mount = now (m .exit); account = now (account .exit); answer = now (a .exit) } ⌝ }
+{
+    pieces_words::end(w, m, account, a)
 }
 
 // The file of a name.

@@ -47,9 +47,10 @@ module _ (unit : ℕ) (aggregate : Bool) (cnvRoom seqRoom : ℕ) where
   zones-told before (z ∷ zs) h fits =
       let parts = then-passed (faultAfter unit aggregate cnvRoom seqRoom before z) h in
       let here = after-told before z (parts .0) in
-      let rest = zones-told (before ++ (z ∷ [])) zs (parts .1) (here .1) in
-      ((here .0, subst (λ (e : ℕ). AllGood unit e zs) (end-next 0 before z) (rest .0)),
-      ap (outOfRows unit aggregate cnvRoom seqRoom) (sym (append-snoc before z zs)) ∙ rest .1)
+      let rest = zones-told (before ++ (z ∷ [])) zs (parts .1) (here .1) in (
+        (here .0, subst (λ (e : ℕ). AllGood unit e zs) (end-next 0 before z) (rest .0)),
+        ap (outOfRows unit aggregate cnvRoom seqRoom) (sym (append-snoc before z zs)) ∙ rest .1,
+      )
 
   zones-given : (before zs : List Zone) → AllGood unit (endOf 0 before) zs → outOfRows unit aggregate cnvRoom seqRoom (before ++ zs) ≡ false
       → faultFrom unit aggregate cnvRoom seqRoom before zs ≡ Passed

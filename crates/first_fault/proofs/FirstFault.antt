@@ -32,10 +32,10 @@ pub bytes-come : (r : Rule) (b cnv seq : List ℕ) → Arrived r b cnv seq (fed 
 bytes-come r b cnv seq =
     cases (leb headerBytes (length b))
     (λ there.
-      let h = leb-true headerBytes (length b) there in
-      cases (goodFields b)
-      (λ good. good-come r b cnv seq h good (zones-come r (zoneCount b) (capacityGiven b) cnv seq (wholeZones b) (whole-few b)))
-      (bad-come r b cnv seq h))
+    let h = leb-true headerBytes (length b) there in
+    cases (goodFields b)
+    (λ good. good-come r b cnv seq h good (zones-come r (zoneCount b) (capacityGiven b) cnv seq (wholeZones b) (whole-few b)))
+    (bad-come r b cnv seq h))
     (λ less. short-come r b cnv seq (leb-false headerBytes (length b) less))
 
 pub first-fault : (r : Rule) (b cnv seq : List ℕ) → FirstFault r b cnv seq

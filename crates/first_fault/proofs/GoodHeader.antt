@@ -53,12 +53,13 @@ module _ (r : Rule) (b cnv seq : List ℕ) (h : headerBytes ≤ length b) (good 
   unfolding headerTaken wholeZones
   good-fed =
       let header : headerTaken nothingTaken b ≡ begins .intake = rw good in
-      let zones = zones-fed r b counted there 0 begins (record { count = refl; given = refl; number = λ p. refl }) (omega arith) (omega arith) in
-      (fed-header r (record { intake = nothingTaken; cnv = cnv; seq = seq }) b refl refl h
-      ∙ ap (λ (i : Intake). fed r (between (record { intake = i; cnv = cnv; seq = seq })) (drop headerBytes b)) header
-      ∙ zones .0
-      ∙ ap (λ (k : ℕ). fed r (between taken) (drop (headerBytes + zoneBytes * k) b)) (zero-add there),
-      subst (Before b taken) (zero-add there) (zones .1))
+      let zones = zones-fed r b counted there 0 begins (record { count = refl; given = refl; number = λ p. refl }) (omega arith) (omega arith) in (
+        fed-header r (record { intake = nothingTaken; cnv = cnv; seq = seq }) b refl refl h
+            ∙ ap (λ (i : Intake). fed r (between (record { intake = i; cnv = cnv; seq = seq })) (drop headerBytes b)) header
+            ∙ zones .0
+            ∙ ap (λ (k : ℕ). fed r (between taken) (drop (headerBytes + zoneBytes * k) b)) (zero-add there),
+        subst (Before b taken) (zero-add there) (zones .1),
+      )
 
   good-rest : Followed b taken (fed r (untaken cnv seq) b)
   good-rest = subst (Followed b taken) (sym (good-fed .0)) (rest-fed r b counted taken there (good-fed .1) (omega arith) (omega arith) (λ fewer. omega arith))
@@ -92,8 +93,8 @@ module _ (r : Rule) (b cnv seq : List ℕ) (h : headerBytes ≤ length b) (good 
         let short : Verdict = refuse (ltb (length b) headerBytes || ltb (length b) (reportBytes b)) BadReport Passed in
         verdicts (here .received .intake .check)
         (λ passed.
-          ap (λ (t : Bool). andThen (here .received .intake .check) (refuse t BadReport Passed)) (ap not (good-complete passed .1) ∙ sym missing)
-          ∙ ap (λ (v : Verdict). andThen v short) good-check)
+        ap (λ (t : Bool). andThen (here .received .intake .check) (refuse t BadReport Passed)) (ap not (good-complete passed .1) ∙ sym missing)
+        ∙ ap (λ (v : Verdict). andThen v short) good-check)
         (λ x refused. ap (λ (v : Verdict). andThen v wanting) refused ∙ sym (ap (λ (v : Verdict). andThen v short) (sym good-check ∙ refused)))
 
     -- where nothing is missing at the end, all zones were taken

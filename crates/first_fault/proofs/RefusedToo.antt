@@ -80,8 +80,8 @@ module _ (block : ℕ) (superblock options : List ℕ) (openLimit activeLimit : 
       record {
         begins = same-refusal;
         ends = λ passed c s e.
-          not-ended passed c s
-          (sym (ap (λ (f : Fed). endOutcome (f .pieces) .answer) (pieces-fed block superblock options openLimit activeLimit cnv seq passed bs)
-          ∙ ap (λ (o : Ended). o .answer) (ended block superblock options openLimit activeLimit cnv seq passed (joined bs)))
-          ∙ e);
+            not-ended passed c s
+            (sym (ap (λ (f : Fed). endOutcome (f .pieces) .answer) (pieces-fed block superblock options openLimit activeLimit cnv seq passed bs)
+            ∙ ap (λ (o : Ended). o .answer) (ended block superblock options openLimit activeLimit cnv seq passed (joined bs)))
+            ∙ e);
       }

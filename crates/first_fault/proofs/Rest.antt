@@ -97,5 +97,5 @@ module _ (r : Rule) (b : List ℕ) (some : 1 ≤ zoneCount b) (t : Taking) (n : 
   rest-fed fits last =
       verdicts (t .intake .check) (λ passed. passed-rest passed fits last)
       (λ x refused.
-        subst (Followed b t) (sym (fed-refused r (between t) rest x refused))
-        (record { check = refused ∙ sym (rw refused); cnv = refl; seq = refl; same = λ p. refl }))
+      subst (Followed b t) (sym (fed-refused r (between t) rest x refused))
+      (record { check = refused ∙ sym (rw refused); cnv = refl; seq = refl; same = λ p. refl }))

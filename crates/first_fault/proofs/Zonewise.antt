@@ -99,13 +99,15 @@ module _ (r : Rule) (b : List ℕ) (some : 1 ≤ zoneCount b) where
   zones-fed (suc n) i t so inside fits =
       verdicts (t .intake .check)
       (λ passed.
-        let z : Zone = reportZone b i in
-        let there : i + 1 + n ≡ i + suc n = omega arith in
-        let rest = zones-fed n (i + 1) (zoneTaken r t z) (before-next t i so passed) (omega arith) (omega arith) in
-        rw (zones-passed r t z (zonesFrom n b (i + 1)) passed)
-        (zone-fed t i so passed (omega arith) (omega arith) ∙ rest .0 ∙ ap (λ (k : ℕ). fed r (between (zonesTaken r (zoneTaken r t z) (zonesFrom n b (i + 1)))) (from k)) there,
-        subst (Before b (zonesTaken r (zoneTaken r t z) (zonesFrom n b (i + 1)))) there (rest .1)))
+      let z : Zone = reportZone b i in
+      let there : i + 1 + n ≡ i + suc n = omega arith in
+      let rest = zones-fed n (i + 1) (zoneTaken r t z) (before-next t i so passed) (omega arith) (omega arith) in
+      rw (zones-passed r t z (zonesFrom n b (i + 1)) passed) (
+        zone-fed t i so passed (omega arith) (omega arith) ∙ rest .0 ∙ ap (λ (k : ℕ). fed r (between (zonesTaken r (zoneTaken r t z) (zonesFrom n b (i + 1)))) (from k)) there,
+        subst (Before b (zonesTaken r (zoneTaken r t z) (zonesFrom n b (i + 1)))) there (rest .1),
+      ))
       (λ x refused.
-        rw (zones-refused r t x (zonesFrom (suc n) b i) refused)
-        (fed-refused r (between t) (from i) x refused ∙ sym (fed-refused r (between t) (from (i + suc n)) x refused),
-        record { count = so .count; given = so .given; number = λ p. not-both refused p }))
+      rw (zones-refused r t x (zonesFrom (suc n) b i) refused) (
+        fed-refused r (between t) (from i) x refused ∙ sym (fed-refused r (between t) (from (i + suc n)) x refused),
+        record { count = so .count; given = so .given; number = λ p. not-both refused p },
+      ))

@@ -26,7 +26,7 @@ use Rattle.mount_words.specs.Words.{mountLength, accountLength, stateAt,
 
 -- CODES, back from their words, and within their codes
 
-flag-back : (b : Bool) → flagFrom (flagCode b) ≡ b
+pub flag-back : (b : Bool) → flagFrom (flagCode b) ≡ b
 flag-back true = refl
 flag-back false = refl
 
@@ -36,7 +36,7 @@ policy-small ZoneRo = refl
 policy-small ZoneOffline = refl
 policy-small Repair = refl
 
-flag-small : (b : Bool) → isFlag (flagCode b) ≡ true
+pub flag-small : (b : Bool) → isFlag (flagCode b) ≡ true
 flag-small true = refl
 flag-small false = refl
 

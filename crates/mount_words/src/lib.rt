@@ -238,7 +238,7 @@ pub fn put_state(w: &mut [u64], x: &mut [u64], m: Mount)
 }
 
 // Puts a mount value into the words, whatever stands there.
-fn put_mount(w: &mut [u64], m: Mount)
+pub fn put_mount(w: &mut [u64], m: Mount)
     requires { ⌜ mountLength ≤ length (now w) ⌝ }
     ensures { λ _. ⌜ now (w .exit) ≡ written (now (w .entry)) (mountWords m) ⌝ }
 {
@@ -250,7 +250,7 @@ fn put_mount(w: &mut [u64], m: Mount)
 }
 
 // Puts an account into the words, whatever stands there.
-fn put_account(x: &mut [u64], account: Account)
+pub fn put_account(x: &mut [u64], account: Account)
     requires { ⌜ accountLength ≤ length (now x) ⌝ }
     ensures { λ _. ⌜ now (x .exit) ≡ written (now (x .entry)) (accountWords account) ⌝ }
 {

@@ -103,23 +103,24 @@ module _ (p : Pieces) where
       told (goodBlock (p .mount .volume .block)) (leb (i .count) mostZones) (leb (w .number) (i .count)) (leb (w .expected) (2 ^ 40))
       (leb (w .run .capacity) (w .expected)) (leb (w .cnvs) (w .number)) (leb (w .seqs) (w .number)) (leb (i .active) (w .seqs)) (ltb (x .held) (unitBytes i)) h in
       let few : i .count ≤ mostZones = leb-true _ _ (t .1) in
-      let inside : w .number ≤ i .count = leb-true _ _ (t .2) in
-      (t .0,
-      record {
-        intake = record {
-          walk = record {
-            number = omega arith;
-            expected = leb-true _ _ (t .3);
-            run = leb-true _ _ (t .4);
-            cnvs = leb-true _ _ (t .5);
-            seqs = leb-true _ _ (t .6);
+      let inside : w .number ≤ i .count = leb-true _ _ (t .2) in (
+        t .0,
+        record {
+          intake = record {
+            walk = record {
+              number = omega arith;
+              expected = leb-true _ _ (t .3);
+              run = leb-true _ _ (t .4);
+              cnvs = leb-true _ _ (t .5);
+              seqs = leb-true _ _ (t .6);
+            };
+            count = few;
+            number = inside;
+            active = leb-true _ _ (t .7);
           };
-          count = few;
-          number = inside;
-          active = leb-true _ _ (t .7);
-        };
-        held = ltb-true _ _ (t .8);
-      })
+          held = ltb-true _ _ (t .8);
+        },
+      )
 
   pub possible-given : goodBlock (p .mount .volume .block) ≡ true → BoundedReceived (p .received) → possiblePieces p ≡ true
   unfolding possiblePieces
