@@ -40,7 +40,7 @@ static unsigned compared, seen[35], at_once, commands[7], zone_reasons[10], reco
 static unsigned pieces_seen[35], pieces_reasons[10];
 
 /* a mount in pieces, both ways, and what the whole mount leaves of the same bytes */
-static uint64_t pieces[38];
+static uint64_t pieces[39];
 static struct zonefs_volume_pieces volume_pieces;
 static uint64_t whole_mount[11], whole_account[4], whole_cnv[CNV_WORDS], whole_seq[SEQ_WORDS];
 
@@ -214,7 +214,7 @@ static void mount_as(const char *what, const char *options, uint64_t expected) {
 
 /* what both hold of a mount in pieces, and what its answer has: no value but for an end that mounts and for a bad zone */
 static void compare_pieces(const char *what, enum function f, uint64_t number) {
-  need(same_words(pieces, volume_pieces.words, 38), what, "the pieces words");
+  need(same_words(pieces, volume_pieces.words, 39), what, "the pieces words");
   if (number != 10)
     need(words[0] == (number == 29 || (number == 0 && f == END) ? 2u : 0u), what, "another number of values than expected");
   pieces_seen[number]++;
@@ -222,7 +222,7 @@ static void compare_pieces(const char *what, enum function f, uint64_t number) {
 
 static void begin_of(const char *what, uint64_t block, size_t super_bytes, const char *options, uint64_t expected) {
   uint64_t number = zonefs_begin(block, super_block, super_bytes, (const uint8_t *)options, strlen(options), open_limit,
-                                 active_limit, pieces, 38, words, 7);
+                                 active_limit, pieces, 39, words, 7);
   struct zonefs_volume_answer got =
       zonefs_volume_begin(&volume_pieces, block, super_block, super_bytes, options, open_limit, active_limit);
   compare(what, BEGIN, number, got, expected);
@@ -230,13 +230,13 @@ static void begin_of(const char *what, uint64_t block, size_t super_bytes, const
 }
 
 static void piece_of(const char *what, const uint8_t *bytes, size_t count, uint64_t expected) {
-  uint64_t number = zonefs_piece(pieces, 38, bytes, count, cnv, cnv_words, seq, seq_words, words, 7);
+  uint64_t number = zonefs_piece(pieces, 39, bytes, count, cnv, cnv_words, seq, seq_words, words, 7);
   compare(what, PIECE, number, zonefs_volume_piece(&volume_pieces, &volume, bytes, count), expected);
   compare_pieces(what, PIECE, number);
 }
 
 static void end_of(const char *what, uint64_t expected) {
-  uint64_t number = zonefs_end(pieces, 38, mount_words, 11, account, 4, words, 7);
+  uint64_t number = zonefs_end(pieces, 39, mount_words, 11, account, 4, words, 7);
   compare(what, END, number, zonefs_volume_end(&volume_pieces, &volume), expected);
   compare_pieces(what, END, number);
 }
@@ -1106,7 +1106,7 @@ static void need_stored(const char *what, size_t cnv_files, size_t seq_files) {
 /* the mount is refused: pieces answer alike from then on, whatever they bring, and so does the end, which leaves no mount */
 static void need_refused(const char *what, uint64_t number, size_t cnv_files, size_t seq_files) {
   static const uint64_t zeros[11] = {0};
-  uint64_t before[38], answer[7];
+  uint64_t before[39], answer[7];
   memcpy(before, pieces, sizeof(before));
   memcpy(answer, words, sizeof(answer));
   need_stored(what, cnv_files, seq_files);
@@ -1116,7 +1116,7 @@ static void need_refused(const char *what, uint64_t number, size_t cnv_files, si
   end_of(what, number);
   need(same_words(words, answer, 7), what, "other values at the end");
   need(same_words(mount_words, zeros, 11) && same_words(account, zeros, 4), what, "the end should leave no mount");
-  need(same_words(pieces, before, 38), what, "the pieces words should stay");
+  need(same_words(pieces, before, 39), what, "the pieces words should stay");
   need_stored(what, cnv_files, seq_files);
   show(1, 0, 10);
 }
@@ -1292,12 +1292,12 @@ static void try_early_ends(void) {
 static void try_short_pieces(void) {
   begin_of("good beginning", BLOCK, 4096, "", 0);
   memset(words, UNTOUCHED, sizeof(words));
-  need(zonefs_begin(BLOCK, super_block, 4096, super_block, 0, 0, 0, pieces, 37, words, 7) == 10, "short pieces", "begin");
-  need(zonefs_piece(pieces, 37, report, 16, cnv, cnv_words, seq, seq_words, words, 7) == 10, "short pieces", "piece");
-  need(zonefs_piece(pieces, 38, report, 16, cnv, cnv_words, seq, seq_words, words, 6) == 10, "short answer", "piece");
-  need(zonefs_end(pieces, 37, mount_words, 11, account, 4, words, 7) == 10, "short pieces", "end");
-  need(zonefs_end(pieces, 38, mount_words, 10, account, 4, words, 7) == 10, "short mount words", "end");
-  need(zonefs_end(pieces, 38, mount_words, 11, account, 3, words, 7) == 10, "short account words", "end");
+  need(zonefs_begin(BLOCK, super_block, 4096, super_block, 0, 0, 0, pieces, 38, words, 7) == 10, "short pieces", "begin");
+  need(zonefs_piece(pieces, 38, report, 16, cnv, cnv_words, seq, seq_words, words, 7) == 10, "short pieces", "piece");
+  need(zonefs_piece(pieces, 39, report, 16, cnv, cnv_words, seq, seq_words, words, 6) == 10, "short answer", "piece");
+  need(zonefs_end(pieces, 38, mount_words, 11, account, 4, words, 7) == 10, "short pieces", "end");
+  need(zonefs_end(pieces, 39, mount_words, 10, account, 4, words, 7) == 10, "short mount words", "end");
+  need(zonefs_end(pieces, 39, mount_words, 11, account, 3, words, 7) == 10, "short account words", "end");
   need(untouched(words, sizeof(words)), "short pieces", "the answer words should be as they were");
   piece_of("whole report behind short words", report, sizeof(report), 0);
   end_of("whole report behind short words", 0);
