@@ -87,12 +87,12 @@ activeFile explicit w z = isSeqFile w z && isActive explicit (seqRow z)
 
 -- ---- a zone
 
--- a zone that is taken: the walk goes on, and what is finished with it is stored
+-- a zone that is taken, as none is after a refusal: the walk goes on, and what is finished with it is stored
 unfoldable pub filed : Rule → Taking → Zone → Taking
 filed r s z =
     record {
       intake = record {
-        check = s .intake .check;
+        check = Passed;
         count = s .intake .count;
         given = s .intake .given;
         walk = stepped (r .aggregate) (s .intake .walk) z;

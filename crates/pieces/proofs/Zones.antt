@@ -2,11 +2,12 @@
 -- Assumes nothing.
 use Prim.Native.Nat.{ℕ, _+_, _-_, _≤_, _<_}
 use native.Mathlib.Omega.{arith}
+use native.Mathlib.Decide.{ℕ-discrete}
 use mathlib.Core.Path.{_≡_, refl, sym, ap, _∙_}
 use mathlib.Core.Bool.{Bool, true, false, _&&_}
-use mathlib.Core.List.{List}
+use mathlib.Core.List.{List, []}
 use lib.Dec.{eqb, leb}
-use lib.ListN.{length, drop}
+use lib.ListN.{length, drop, drop-of-length-le}
 use borrow.Author.Tests.{leb-true, leb-false, ne-eqb, lt-leb}
 use Rattle.types.specs.declared.Verdict.the-variants.{Passed}
 use Rattle.types.proofs.Tests.{and-left, and-right}
@@ -28,6 +29,9 @@ pub record Passing (r : Rule) (b : List ℕ) (from : ℕ) (cnv₀ seq₀ : List 
   pub inside : at ≤ length b
   pub bounded : BoundedIntake i
   pub counts : i .count ≡ i₀ .count
+  pub after : from ≤ at
+  pub whole : from < at → from + zoneBytes ≤ at
+  pub unmoved : at ≡ from → i ≡ i₀
   pub passed : i .check ≡ Passed → i₀ .check ≡ Passed
   pub cnvs : length cnv ≡ length cnv₀
   pub seqs : length seq ≡ length seq₀
@@ -36,7 +40,7 @@ pub record Passing (r : Rule) (b : List ℕ) (from : ℕ) (cnv₀ seq₀ : List 
 
 pub passing-begun : (r : Rule) (b : List ℕ) (from : ℕ) (cnv seq : List ℕ) (i : Intake) → BoundedIntake i → from ≤ length b → Passing r b from cnv seq i cnv seq i from
 passing-begun r b from cnv seq i bounded inside =
-    record { inside = inside; bounded = bounded; counts = refl; passed = (λ p. p); cnvs = refl; seqs = refl; same = refl }
+    record { inside = inside; bounded = bounded; counts = refl; after = omega arith; whole = (λ h. absurd (omega arith)); unmoved = (λ _. refl); passed = (λ p. p); cnvs = refl; seqs = refl; same = refl }
 
 module _ {r : Rule} {b : List ℕ} {from : ℕ} {cnv₀ seq₀ : List ℕ} {i₀ : Intake} {cnv seq : List ℕ} {i : Intake} {at : ℕ}
     (so : Passing r b from cnv₀ seq₀ i₀ cnv seq i at) (here : goesOn i && leb zoneBytes (length b - at) ≡ true) where
@@ -63,6 +67,9 @@ module _ {r : Rule} {b : List ℕ} {from : ℕ} {cnv₀ seq₀ : List ℕ} {i₀
         inside = passing-fits;
         bounded = rw now at (kept .0);
         counts = sym (ap (λ (j : Intake). j .count) now) ∙ kept .1 ∙ so .counts;
+        after = omega (arith, so .after);
+        whole = (λ _. omega (arith, so .after));
+        unmoved = (λ q. absurd (omega (arith, q, so .after)));
         passed = (λ _. so .passed (told .0));
         cnvs = cnvs ∙ so .cnvs;
         seqs = seqs ∙ so .seqs;
@@ -83,3 +90,27 @@ passing-done i len at inside left on =
 pub passing-counted : {r : Rule} {b : List ℕ} {from : ℕ} {cnv₀ seq₀ : List ℕ} {i₀ : Intake} {cnv seq : List ℕ} {i : Intake} {at : ℕ}
     → Passing r b from cnv₀ seq₀ i₀ cnv seq i at → (i₀ .check ≡ Passed → 1 ≤ i₀ .count) → i .check ≡ Passed → 1 ≤ i .count
 passing-counted so counted p = let some = counted (so .passed p) in omega (arith, so .counts, some)
+
+-- where one zone at least was there, it was taken
+pub passing-moved : {r : Rule} {b : List ℕ} {from : ℕ} {cnv₀ seq₀ : List ℕ} {i₀ : Intake} {cnv seq : List ℕ} {i : Intake} {at : ℕ}
+    → Passing r b from cnv₀ seq₀ i₀ cnv seq i at → goesOn i && leb zoneBytes (length b - at) ≡ false
+    → goesOn i₀ ≡ true → from + zoneBytes ≤ length b → from + zoneBytes ≤ at
+passing-moved {b = b} {from} {i₀ = i₀} {i = i} {at} so left on fits = elim (ℕ-discrete at from) [
+  | yes q ↦ let short = passing-done i (length b) at (so .inside) left (ap goesOn (so .unmoved q) ∙ on) in absurd (omega (arith, q, short))
+  | no d ↦ so .whole (omega (arith, so .after, d))
+]
+
+-- of one zone's bytes: the zone is taken
+pub passing-one : (r : Rule) (t : Taking) (b : List ℕ) (i : Intake) (cnv seq : List ℕ) (at : ℕ) → t .intake .check ≡ Passed → (t .intake .count ≡ 0 → ⊥)
+    → complete (t .intake) ≡ false → length b ≡ zoneBytes → at ≡ zoneBytes
+    → fed r (between (record { intake = i; cnv = cnv; seq = seq })) (drop at b) ≡ fed r (between t) (drop 0 b)
+    → zoneTaken r t (zoneAt (t .intake .given) b 0) ≡ record { intake = i; cnv = cnv; seq = seq }
+unfolding fed
+passing-one r t b i cnv seq at passed some next long end same =
+    let s : Receiving = between (record { intake = i; cnv = cnv; seq = seq }) in
+    let taken : Receiving = between (zoneTaken r t (zoneAt (t .intake .given) b 0)) in
+    let none : drop zoneBytes b ≡ [] = drop-of-length-le b {i = zoneBytes} (omega arith) in
+    let left : fed r s (drop at b) ≡ s = ap (λ (k : ℕ). fed r s (drop k b)) end ∙ ap (fed r s) none in
+    let right : fed r (between t) (drop 0 b) ≡ taken =
+    fed-zone r t b 0 passed (ne-eqb (t .intake .count) 0 some) next (omega arith) ∙ ap (fed r taken) none in
+    ap (λ (x : Receiving). record { intake = x .received .intake; cnv = x .cnv; seq = x .seq }) (sym right ∙ sym same ∙ left)

@@ -112,16 +112,43 @@ fn wholly(intake: Intake) -> Received
     }
 }
 
-// Takes the header or zone that these bytes begin with.
+// Takes the zones that are whole in these bytes, from `from` on, where they stand.
+fn take_whole(
+    rule: Rule,
+    intake: Intake,
+    bytes: &[u8],
+    from: usize,
+    cnv: &mut [u64],
+    seq: &mut [u64],
+) -> Whole
+    requires { ⌜ (0 < rule .unit) × BoundedIntake intake × (from ≤ length (now bytes)) ⌝ }
+    ensures fed { λ r. ⌜ fed rule (between (record { intake = r .intake; cnv = now (cnv .exit); seq = now (seq .exit) })) (drop (r .at) (now (bytes .entry))) ≡ fed rule (between (record { intake = intake; cnv = now (cnv .entry); seq = now (seq .entry) })) (drop from (now (bytes .entry))) ⌝ }
+    ensures inside { λ r. ⌜ r .at ≤ length (now (bytes .entry)) ⌝ }
+    ensures bounded { λ r. ⌜ BoundedIntake (r .intake) ⌝ }
+    ensures counted { λ r. ⌜ ((intake .check ≡ Passed → 1 ≤ intake .count) → r .intake .check ≡ Passed → 1 ≤ r .intake .count) ⌝ }
+    ensures moved { λ r. ⌜ (goesOn intake ≡ true → from + zoneBytes ≤ length (now (bytes .entry)) → from + zoneBytes ≤ r .at) ⌝ }
+    ensures done { λ r. ⌜ (goesOn (r .intake) ≡ true → length (now (bytes .entry)) < r .at + zoneBytes) ⌝ }
+{
+    let mut taken = intake;
+    let mut at = from;
+    while goes_on(taken) & (zones::ZONE_BYTES <= bytes.len() - at) {
+        let z = zones::zone_at(bytes, at, taken.given);
+        taken = intake::take_zone(rule, taken, z, cnv, seq);
+        at += zones::ZONE_BYTES;
+    }
+    Whole { intake: taken, at }
+}
+
+// Takes the header or zone of these bytes. A zone is taken by the loop over whole ones, so that its code is there once and compiled into that loop.
 fn take_unit(rule: Rule, intake: Intake, b: &[u8], cnv: &mut [u64], seq: &mut [u64]) -> Intake
-    requires { ⌜ (0 < rule .unit) × BoundedIntake intake × (complete intake ≡ false) × (zoneBytes ≤ length (now b)) ⌝ }
+    requires { ⌜ (0 < rule .unit) × BoundedIntake intake × (intake .check ≡ Passed) × (complete intake ≡ false) × (length (now b) ≡ zoneBytes) ⌝ }
     ensures { λ r. ⌜ unitTaken rule (record { intake = intake; cnv = now (cnv .entry); seq = now (seq .entry) }) (now (b .entry)) ≡ record { intake = r; cnv = now (cnv .exit); seq = now (seq .exit) } ⌝ }
 {
     if intake.count == 0 {
         intake::take_header(intake, b)
     } else {
-        let z = zones::zone_at(b, 0, intake.given);
-        intake::take_zone(rule, intake, z, cnv, seq)
+        let whole = take_whole(rule, intake, b, 0, cnv, seq);
+        whole.intake
     }
 }
 
@@ -216,32 +243,6 @@ fn collect(
     } else {
         add_bytes(rule, received, bytes, cnv, seq)
     }
-}
-
-// Takes the zones that are whole in these bytes, from `from` on, where they stand.
-fn take_whole(
-    rule: Rule,
-    intake: Intake,
-    bytes: &[u8],
-    from: usize,
-    cnv: &mut [u64],
-    seq: &mut [u64],
-) -> Whole
-    requires { ⌜ (0 < rule .unit) × BoundedIntake intake × (from ≤ length (now bytes)) ⌝ }
-    ensures fed { λ r. ⌜ fed rule (between (record { intake = r .intake; cnv = now (cnv .exit); seq = now (seq .exit) })) (drop (r .at) (now (bytes .entry))) ≡ fed rule (between (record { intake = intake; cnv = now (cnv .entry); seq = now (seq .entry) })) (drop from (now (bytes .entry))) ⌝ }
-    ensures inside { λ r. ⌜ r .at ≤ length (now (bytes .entry)) ⌝ }
-    ensures bounded { λ r. ⌜ BoundedIntake (r .intake) ⌝ }
-    ensures counted { λ r. ⌜ ((intake .check ≡ Passed → 1 ≤ intake .count) → r .intake .check ≡ Passed → 1 ≤ r .intake .count) ⌝ }
-    ensures done { λ r. ⌜ (goesOn (r .intake) ≡ true → length (now (bytes .entry)) < r .at + zoneBytes) ⌝ }
-{
-    let mut taken = intake;
-    let mut at = from;
-    while goes_on(taken) & (zones::ZONE_BYTES <= bytes.len() - at) {
-        let z = zones::zone_at(bytes, at, taken.given);
-        taken = intake::take_zone(rule, taken, z, cnv, seq);
-        at += zones::ZONE_BYTES;
-    }
-    Whole { intake: taken, at }
 }
 
 // Takes the bytes of a piece: what is missing of an unfinished header or zone, then the zones that are whole, and what is left of the last.

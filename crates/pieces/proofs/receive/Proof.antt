@@ -51,7 +51,7 @@ returns c =
     let l = c .before .before .before .before .before .collect2 in
     let j = f .ensures .1 .1 .0 (c .before .before .before .before .before .before .before .before .before .before .before .before .before .before .before .before .before .before .if1 .taken) in
     receive-last (a .rule) s (a .bytes .now) (f .result .used) (f .ensures .0) j (w .result .intake) _ _ (w .result .at) (w .ensures .0) (l .result .used) (c .before .before .before .before .before .before .before .before .before .wholly .ensures)
-    (w .ensures .1 .1 .1 .1) (w .ensures .1 .1 .1 .0) (l .ensures .0) (l .ensures .1 .1 .1)
+    (w .ensures .1 .1 .1 .1 .1) (w .ensures .1 .1 .1 .0) (l .ensures .0) (l .ensures .1 .1 .1)
 
 same-length-3 : tie.Need-same-length-3
 same-length-3 c = search needs

@@ -6,7 +6,7 @@ use lib.Dec.{leb}
 use lib.ListN.{length}
 use borrow.Author.Needs.{needs}
 use Rattle.zones.specs.Zone.{zoneBytes}
-use Rattle.pieces.proofs.Zones.{Passing, passing-begun, passing-fits, passing-ready, passing-step, passing-done, passing-counted}
+use Rattle.pieces.proofs.Zones.{Passing, passing-begun, passing-fits, passing-ready, passing-step, passing-done, passing-counted, passing-moved}
 use Rattle.pieces.proofs.take_whole.Statement.{statement}
 use Rattle.pieces.proofs.take_whole.Tie as tie
 
@@ -64,7 +64,7 @@ returns : tie.Need-returns Inv-loop μ-loop
 returns c =
     let l = c .before .before .loop in
     let left = ap (λ (t : Bool). t && leb zoneBytes (length (c .before .before .before .before .before .before .args .bytes .now) - l .at)) (sym (c .before .goes-on .ensures)) ∙ c .if1 .left in
-    (l .inv .same, (l .inv .inside, (l .inv .bounded, (passing-counted (l .inv), passing-done (l .taken) (length (c .before .before .before .before .before .before .args .bytes .now)) (l .at) (l .inv .inside) left))))
+    (l .inv .same, (l .inv .inside, (l .inv .bounded, (passing-counted (l .inv), (passing-moved (l .inv) left, passing-done (l .taken) (length (c .before .before .before .before .before .before .args .bytes .now)) (l .at) (l .inv .inside) left)))))
 
 pub take-whole-spec : {M : Type 1} → statement M
 take-whole-spec =
