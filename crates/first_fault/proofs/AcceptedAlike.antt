@@ -31,7 +31,7 @@ use Rattle.mount.specs.Mount.{Mounting, badOptions, fileZones, explicitOf, aggr
 use Rattle.mount.proofs.Leaves.{Accepts, accepts, leaves, mount-leaves}
 use Rattle.intake.specs.declared.Intake.{Intake}
 use Rattle.intake.specs.declared.Rule.{Rule}
-use Rattle.pieces.specs.Bytes.{Receiving}
+use Rattle.receiving.specs.Bytes.{Receiving}
 use Rattle.pieces.specs.Pieces.{Fed, Ended, beginOutcome, endCheck, withFiles, endMount, endAnswer, endOutcome}
 use Rattle.first_fault.specs.Claims.{joined, started, inPieces, AcceptedAlike}
 use Rattle.first_fault.proofs.Fold.{AllTaken}

@@ -19,9 +19,9 @@ use Rattle.mount.specs.Fill.{rowsWords, fill}
 use Rattle.intake.specs.declared.Rule.{Rule}
 use Rattle.intake.specs.declared.Intake.{Intake}
 use Rattle.intake.specs.Steps.{nothingTaken, refusedWith, headerTaken}
-use Rattle.pieces.specs.Bytes.{Receiving, between, fed}
+use Rattle.receiving.specs.Bytes.{Receiving, between, fed}
 use Rattle.pieces.specs.Pieces.{endCheck}
-use Rattle.pieces.proofs.Feeding.{takingOf, fed-refused, fed-part, fed-header}
+use Rattle.receiving.proofs.Feeding.{takingOf, fed-refused, fed-part, fed-header}
 use Rattle.first_fault.specs.FirstFault.{wholeZones, firstFault, endFault, passedZones, unfinished, finishedRuns, finishedCnv, finishedSeq}
 use Rattle.first_fault.specs.Claims.{untaken}
 use Rattle.first_fault.proofs.Fold.{AllTaken}

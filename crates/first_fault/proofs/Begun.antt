@@ -13,9 +13,10 @@ use Rattle.mount.specs.Mount.{aggregated, openingCheck}
 use Rattle.mount.proofs.Mounted.{opening-block}
 use Rattle.intake.specs.declared.Rule.{Rule}
 use Rattle.pieces.specs.declared.Pieces.{Pieces}
-use Rattle.pieces.specs.Bytes.{Receiving, fed}
+use Rattle.receiving.specs.Bytes.{Receiving, fed}
 use Rattle.pieces.specs.Pieces.{Fed, foundMount, begunWith, begunAs, beginOutcome, possiblePieces, ruleOf, receivedBy, fedTo, endCheck, endAnswer, endMount, endedAs, endOutcome}
-use Rattle.pieces.proofs.Bounds.{nothing-received, possible-given}
+use Rattle.pieces.proofs.Possible.{possible-given}
+use Rattle.receiving.proofs.Bounds.{nothing-received}
 use Rattle.first_fault.specs.Claims.{joined, started, inPieces, untaken}
 use Rattle.first_fault.proofs.Joined.{still-possible, pieces-join}
 

@@ -11,7 +11,7 @@ use Rattle.types.proofs.Tests.{cases}
 use Rattle.zones.specs.Zone.{zoneBytes}
 use Rattle.report.specs.Report.{headerBytes, zoneCount, capacityGiven, goodFields, zonesFrom}
 use Rattle.intake.specs.declared.Rule.{Rule}
-use Rattle.pieces.specs.Bytes.{fed}
+use Rattle.receiving.specs.Bytes.{fed}
 use Rattle.first_fault.specs.FirstFault.{wholeZones}
 use Rattle.first_fault.specs.Claims.{untaken, FirstFault}
 use Rattle.first_fault.proofs.Zones.{zones-come}

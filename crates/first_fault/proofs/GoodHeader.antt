@@ -24,9 +24,9 @@ use Rattle.mount.specs.Fill.{fill}
 use Rattle.intake.specs.declared.Rule.{Rule}
 use Rattle.intake.specs.declared.Intake.{Intake}
 use Rattle.intake.specs.Steps.{Taking, nothingTaken, headerTaken}
-use Rattle.pieces.specs.Bytes.{Receiving, complete, between, fed}
+use Rattle.receiving.specs.Bytes.{Receiving, complete, between, fed}
 use Rattle.pieces.specs.Pieces.{endCheck}
-use Rattle.pieces.proofs.Feeding.{takingOf, fed-header}
+use Rattle.receiving.proofs.Feeding.{takingOf, fed-header}
 use Rattle.first_fault.specs.FirstFault.{reportBytes, wholeZones, passedFrom, firstFault, endFault, passedZones, finishedRuns, finishedCnv, finishedSeq}
 use Rattle.first_fault.specs.Claims.{untaken}
 use Rattle.first_fault.proofs.Fold.{zonesTaken, afterHeader, AllTaken, Came}

@@ -4,10 +4,11 @@ use Prim.Native.Nat.{ℕ}
 use mathlib.Core.Path.{_≡_, refl, sym, ap, _∙_}
 use mathlib.Core.Bool.{true}
 use mathlib.Core.List.{List, [], _∷_}
-use Rattle.pieces.specs.Bytes.{Receiving, fed}
+use Rattle.receiving.specs.Bytes.{Receiving, fed}
 use Rattle.pieces.specs.Pieces.{Fed, possiblePieces, ruleOf, receivedBy, fedTo, pieceOutcome}
-use Rattle.pieces.proofs.Feeding.{fed-join}
-use Rattle.pieces.proofs.Bounds.{fed-bounded, possible-told, possible-given}
+use Rattle.receiving.proofs.Feeding.{fed-join}
+use Rattle.pieces.proofs.Possible.{possible-told, possible-given}
+use Rattle.receiving.proofs.Bounds.{fed-bounded}
 use Rattle.first_fault.specs.Claims.{joined, inPieces}
 
 -- what a piece goes on from

@@ -18,8 +18,8 @@ use Rattle.report.specs.Report.{headerBytes, zoneCount}
 use Rattle.intake.specs.declared.Rule.{Rule}
 use Rattle.intake.specs.declared.Intake.{Intake}
 use Rattle.intake.specs.Steps.{Taking}
-use Rattle.pieces.specs.Bytes.{Receiving, unitBytes, complete, between, fed}
-use Rattle.pieces.proofs.Feeding.{takingOf, fed-refused, fed-extra, fed-part}
+use Rattle.receiving.specs.Bytes.{Receiving, unitBytes, complete, between, fed}
+use Rattle.receiving.proofs.Feeding.{takingOf, fed-refused, fed-extra, fed-part}
 use Rattle.first_fault.specs.FirstFault.{reportBytes}
 use Rattle.first_fault.proofs.Zonewise.{verdicts, not-both, Before}
 

@@ -21,8 +21,8 @@ use Rattle.report.specs.Report.{headerBytes, zoneCount, capacityGiven, reportZo
 use Rattle.intake.specs.declared.Rule.{Rule}
 use Rattle.intake.specs.declared.Intake.{Intake}
 use Rattle.intake.specs.Steps.{Taking, refusedWith, noRow, filed, goodTaken, zoneTaken}
-use Rattle.pieces.specs.Bytes.{complete, between, fed}
-use Rattle.pieces.proofs.Feeding.{fed-refused, fed-zone}
+use Rattle.receiving.specs.Bytes.{complete, between, fed}
+use Rattle.receiving.proofs.Feeding.{fed-refused, fed-zone}
 use Rattle.first_fault.proofs.Fold.{zoneAfter, zonesTaken}
 
 -- passed or refused

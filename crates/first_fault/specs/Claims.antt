@@ -12,7 +12,7 @@ use Rattle.mount.specs.Fill.{fill}
 use Rattle.mount.specs.Mount.{Mounting}
 use Rattle.intake.specs.declared.Rule.{Rule}
 use Rattle.pieces.specs.declared.Pieces.{Pieces}
-use Rattle.pieces.specs.Bytes.{Receiving, nothingReceived, fed}
+use Rattle.receiving.specs.Bytes.{Receiving, nothingReceived, fed}
 use Rattle.pieces.specs.Pieces.{Beginning, Fed, Ended, pieceOutcome, endCheck}
 use Rattle.first_fault.specs.FirstFault.{firstFault, endFault, finishedCnv, finishedSeq}
 

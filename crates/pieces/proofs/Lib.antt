@@ -1,7 +1,1 @@
-pub mod Adding
-pub mod Bounds
-pub mod Collected
-pub mod Feeding
-pub mod Receiving
-pub mod Units
-pub mod Zones
+pub mod Possible

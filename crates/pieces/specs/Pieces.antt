@@ -20,9 +20,9 @@ use Rattle.files.specs.Walk.{cnvFiles}
 use Rattle.mount.specs.Mount.{openingCheck, answerFor, accountOf, volumeOf}
 use Rattle.intake.specs.declared.Rule.{Rule}
 use Rattle.intake.specs.declared.Intake.{Intake}
-use Rattle.pieces.specs.declared.Received.{Received}
+use Rattle.receiving.specs.declared.Received.{Received}
 use Rattle.pieces.specs.declared.Pieces.{Pieces}
-use Rattle.pieces.specs.Bytes.{Receiving, unitBytes, complete, nothingReceived, fed}
+use Rattle.receiving.specs.Bytes.{Receiving, unitBytes, complete, nothingReceived, fed}
 
 -- ---- begin: "answers 0 or 20 to 27 and 33 exactly as the whole mount does"
 

@@ -18,7 +18,7 @@ use Rattle.wire.specs.Le.{le, little}
 use Rattle.files.specs.declared.Run.{Run}
 use Rattle.files.specs.declared.Walk.{Walk}
 use Rattle.intake.specs.declared.Intake.{Intake}
-use Rattle.pieces.specs.declared.Received.{Received}
+use Rattle.receiving.specs.declared.Received.{Received}
 use Rattle.pieces.specs.declared.Pieces.{Pieces}
 use Rattle.pieces.specs.Pieces.{Beginning, beginOutcome, possiblePieces, Fed, pieceOutcome, Ended, endOutcome}
 use Rattle.answer_words.specs.Answers.{answerLength, answerWords, written}

@@ -17,7 +17,7 @@ use intake::Intake;
 use pieces::EndOutcome;
 use pieces::Pieces;
 use pieces::PiecesOutcome;
-use pieces::Received;
+use receiving::Received;
 use types::Refusal;
 use types::Verdict;
 use types::ZoneFault;

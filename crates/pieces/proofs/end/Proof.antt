@@ -1,5 +1,5 @@
 use Rattle.pieces.specs.Pieces.{endOutcome}
-use Rattle.pieces.proofs.Bounds.{possible-told}
+use Rattle.pieces.proofs.Possible.{possible-told}
 use mathlib.Core.Path.{sym, _∙_}
 use borrow.Author.Needs.{needs}
 use Rattle.pieces.proofs.end.Statement.{statement}

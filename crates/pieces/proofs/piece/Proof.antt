@@ -1,6 +1,6 @@
 use Rattle.pieces.specs.Pieces.{pieceOutcome}
 use Rattle.intake.specs.declared.Rule.{Rule}
-use Rattle.pieces.proofs.Bounds.{possible-told}
+use Rattle.pieces.proofs.Possible.{possible-told}
 use Rattle.types.proofs.Blocks.{block-positive}
 use mathlib.Core.Path.{sym, ap, _∙_}
 use native.Mathlib.Omega.{arith}

@@ -1,12 +1,12 @@
 use native.Mathlib.Omega.{arith}
 use mathlib.Core.Path.{sym, subst, _∙_}
-use Rattle.pieces.specs.Bytes.{Receiving}
-use Rattle.pieces.specs.Facts.{BoundedReceived}
-use Rattle.pieces.proofs.Bounds.{wholly-bounded}
-use Rattle.pieces.proofs.Receiving.{first-bounded, receive-first, receive-last}
+use Rattle.receiving.specs.Bytes.{Receiving}
+use Rattle.receiving.specs.Facts.{BoundedReceived}
+use Rattle.receiving.proofs.Bounds.{wholly-bounded}
+use Rattle.receiving.proofs.Receiving.{first-bounded, receive-first, receive-last}
 use borrow.Author.Needs.{needs}
-use Rattle.pieces.proofs.receive.Statement.{statement}
-use Rattle.pieces.proofs.receive.Tie as tie
+use Rattle.receiving.proofs.receive.Statement.{statement}
+use Rattle.receiving.proofs.receive.Tie as tie
 
 collect-requires : tie.Need-collect-requires
 collect-requires c κs = search needs

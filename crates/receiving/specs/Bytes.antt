@@ -13,7 +13,7 @@ use Rattle.report.specs.Report.{headerBytes}
 use Rattle.intake.specs.declared.Rule.{Rule}
 use Rattle.intake.specs.declared.Intake.{Intake}
 use Rattle.intake.specs.Steps.{Taking, nothingTaken, refusedWith, headerTaken, zoneTaken}
-use Rattle.pieces.specs.declared.Received.{Received}
+use Rattle.receiving.specs.declared.Received.{Received}
 
 -- what has been received of a report, and both tables
 pub record Receiving : Type 0 where

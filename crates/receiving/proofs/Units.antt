@@ -12,8 +12,8 @@ use Rattle.types.proofs.Tests.{and-left, and-right}
 use Rattle.zones.specs.Zone.{zoneBytes}
 use Rattle.report.specs.Report.{headerBytes}
 use Rattle.intake.specs.declared.Intake.{Intake}
-use Rattle.pieces.specs.Bytes.{unitBytes, complete}
-use Rattle.pieces.specs.Facts.{isPassed, goesOn}
+use Rattle.receiving.specs.Bytes.{unitBytes, complete}
+use Rattle.receiving.specs.Facts.{isPassed, goesOn}
 
 -- a zone comes next, once there is a header
 pub not-complete : (i : Intake) → complete i ≡ false → (i .count ≡ 0 → ⊥) → i .walk .number < i .count

@@ -6,9 +6,9 @@ use lib.Dec.{leb}
 use lib.ListN.{length}
 use borrow.Author.Needs.{needs}
 use Rattle.zones.specs.Zone.{zoneBytes}
-use Rattle.pieces.proofs.Zones.{Passing, passing-begun, passing-fits, passing-ready, passing-step, passing-done, passing-counted, passing-moved}
-use Rattle.pieces.proofs.take_whole.Statement.{statement}
-use Rattle.pieces.proofs.take_whole.Tie as tie
+use Rattle.receiving.proofs.Zones.{Passing, passing-begun, passing-fits, passing-ready, passing-step, passing-done, passing-counted, passing-moved}
+use Rattle.receiving.proofs.take_whole.Statement.{statement}
+use Rattle.receiving.proofs.take_whole.Tie as tie
 
 abbrev Inv-loop : tie.InvT-loop
 Inv-loop rule bytes from cnv₀ seq₀ taken₀ at₀ cnv seq taken at = Passing rule bytes at₀ cnv₀ seq₀ taken₀ cnv seq taken at

@@ -7,8 +7,8 @@ use Rattle.types.specs.declared.Verdict.{Verdict}
 use Rattle.types.specs.declared.Verdict.the-variants.{Passed, Refused}
 use Rattle.intake.specs.declared.Intake.{Intake}
 use Rattle.intake.specs.Facts.{BoundedIntake}
-use Rattle.pieces.specs.declared.Received.{Received}
-use Rattle.pieces.specs.Bytes.{unitBytes, wholly}
+use Rattle.receiving.specs.declared.Received.{Received}
+use Rattle.receiving.specs.Bytes.{unitBytes, wholly}
 
 -- what has been taken is bounded, and the header or zone that comes next isn't whole
 pub record BoundedReceived (x : Received) : Type 0 where

@@ -1,9 +1,9 @@
-use Rattle.pieces.proofs.Adding.{add-refused, add-extra}
-use Rattle.pieces.specs.Bytes.{Receiving}
+use Rattle.receiving.proofs.Adding.{add-refused, add-extra}
+use Rattle.receiving.specs.Bytes.{Receiving}
 use mathlib.Core.Path.{sym, _∙_}
 use borrow.Author.Needs.{needs}
-use Rattle.pieces.proofs.collect.Statement.{statement}
-use Rattle.pieces.proofs.collect.Tie as tie
+use Rattle.receiving.proofs.collect.Statement.{statement}
+use Rattle.receiving.proofs.collect.Tie as tie
 
 enum-told : tie.Need-enum-told
 enum-told c = search needs

@@ -20,8 +20,8 @@ use Rattle.report.specs.Report.{headerBytes}
 use Rattle.intake.specs.declared.Rule.{Rule}
 use Rattle.intake.specs.declared.Intake.{Intake}
 use Rattle.intake.specs.Steps.{Taking, headerTaken, zoneTaken}
-use Rattle.pieces.specs.Bytes.{Receiving, unitBytes, complete, unitTaken, noBytes, between, collected, extra, byteAfter, byteTaken, fed}
-use Rattle.pieces.proofs.Collected.{part-shows, zone-shows, header-shows}
+use Rattle.receiving.specs.Bytes.{Receiving, unitBytes, complete, unitTaken, noBytes, between, collected, extra, byteAfter, byteTaken, fed}
+use Rattle.receiving.proofs.Collected.{part-shows, zone-shows, header-shows}
 
 -- a choice, once its test is known
 first-of : {X : Type 0} {t : Bool} (x y : X) → t ≡ true → cond t x y ≡ x

@@ -18,10 +18,10 @@ use Rattle.intake.specs.declared.Intake.{Intake}
 use Rattle.intake.specs.Steps.{Taking, zoneTaken}
 use Rattle.intake.specs.Facts.{BoundedIntake, Ready}
 use Rattle.intake.proofs.Bounds.{zone-kept}
-use Rattle.pieces.specs.Bytes.{Receiving, complete, between, fed}
-use Rattle.pieces.specs.Facts.{goesOn}
-use Rattle.pieces.proofs.Feeding.{fed-zone}
-use Rattle.pieces.proofs.Units.{goes-on-told}
+use Rattle.receiving.specs.Bytes.{Receiving, complete, between, fed}
+use Rattle.receiving.specs.Facts.{goesOn}
+use Rattle.receiving.proofs.Feeding.{fed-zone}
+use Rattle.receiving.proofs.Units.{goes-on-told}
 
 -- THE PASS: it has come to what i says, with these tables, at `at`
 

@@ -1,12 +1,12 @@
-use Rattle.pieces.proofs.Adding.{add-last, add-some}
-use Rattle.pieces.specs.Bytes.{Receiving}
+use Rattle.receiving.proofs.Adding.{add-last, add-some}
+use Rattle.receiving.specs.Bytes.{Receiving}
 use native.Mathlib.Omega.{arith}
 use mathlib.Core.Path.{_≡_, sym, _∙_}
 use lib.ListN.{length, length-take}
-use Rattle.pieces.proofs.Units.{unit-few}
+use Rattle.receiving.proofs.Units.{unit-few}
 use borrow.Author.Needs.{needs}
-use Rattle.pieces.proofs.add_bytes.Statement.{statement}
-use Rattle.pieces.proofs.add_bytes.Tie as tie
+use Rattle.receiving.proofs.add_bytes.Statement.{statement}
+use Rattle.receiving.proofs.add_bytes.Tie as tie
 
 unit-bytes-requires : tie.Need-unit-bytes-requires
 unit-bytes-requires c κs = search needs

@@ -13,7 +13,7 @@ use Rattle.zones.specs.Zone.{zoneBytes, zoneAt}
 use Rattle.report.specs.Report.{headerBytes}
 use Rattle.intake.specs.declared.Intake.{Intake}
 use Rattle.intake.specs.Steps.{headerTaken}
-use Rattle.pieces.specs.Bytes.{noBytes}
+use Rattle.receiving.specs.Bytes.{noBytes}
 
 -- so many bytes from a place on, put over as many of the zeros
 pub part-shows : (b : List ℕ) (at n i : ℕ) → n ≤ zoneBytes → at + n ≤ length b → i < n → getD (sets noBytes 0 (take n (drop at b))) i 0 ≡ getD b (at + i) 0

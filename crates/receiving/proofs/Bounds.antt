@@ -1,27 +1,24 @@
--- What is received stays within its bounds, byte after byte; and those bounds are exactly what is asked of a value that is held between pieces.
+-- What is received stays within its bounds, byte after byte.
 -- Assumes nothing.
-use Prim.Native.Nat.{ℕ, _+_, _^_, _≤_, _<_}
+use Prim.Native.Nat.{ℕ, _+_, _<_}
 use native.Mathlib.Omega.{arith}
 use mathlib.Core.Path.{_≡_}
-use mathlib.Core.Bool.{Bool, true, false, cond, _&&_}
+use mathlib.Core.Bool.{Bool, true, false, cond}
 use mathlib.Core.List.{List, [], _∷_}
-use borrow.Author.Tests.{leb-true, leb-false, le-leb, ltb-true, lt-ltb, eqb-true, eqb-false}
-use lib.Dec.{eqb, leb, ltb}
+use borrow.Author.Tests.{leb-false, le-leb, eqb-true, eqb-false}
+use lib.Dec.{eqb, leb}
 use lib.ListN.{set}
-use Rattle.types.specs.Blocks.{goodBlock, mostZones}
 use Rattle.types.specs.declared.Verdict.{Verdict}
 use Rattle.types.specs.declared.Verdict.the-variants.{Passed, Refused}
-use Rattle.types.proofs.Tests.{cases, and-left, and-right, both}
+use Rattle.types.proofs.Tests.{cases}
 use Rattle.zones.specs.Zone.{zoneAt}
 use Rattle.intake.specs.declared.Rule.{Rule}
 use Rattle.intake.specs.declared.Intake.{Intake}
 use Rattle.intake.specs.Steps.{Taking}
 use Rattle.intake.specs.Facts.{BoundedIntake}
 use Rattle.intake.proofs.Bounds.{nothing-bounded, refused-bounded, header-bounded, zone-kept}
-use Rattle.pieces.specs.declared.Pieces.{Pieces}
-use Rattle.pieces.specs.Bytes.{Receiving, unitBytes, complete, unitTaken, wholly, nothingReceived, collected, byteAfter, byteTaken, fed}
-use Rattle.pieces.specs.Facts.{BoundedReceived}
-use Rattle.pieces.specs.Pieces.{possiblePieces}
+use Rattle.receiving.specs.Bytes.{Receiving, unitBytes, complete, unitTaken, wholly, nothingReceived, collected, byteAfter, byteTaken, fed}
+use Rattle.receiving.specs.Facts.{BoundedReceived}
 
 -- A HEADER OR ZONE
 
@@ -79,53 +76,3 @@ pub fed-bounded : (r : Rule) (s : Receiving) (bytes : List ℕ) → BoundedRecei
 unfolding fed
 fed-bounded r s [] b = b
 fed-bounded r s (c ∷ cs) b = fed-bounded r (byteTaken r s c) cs (byte-bounded r s b c)
-
--- A VALUE THAT CAN BE HELD
-
-abbrev tests : Bool → Bool → Bool → Bool → Bool → Bool → Bool → Bool → Bool → Bool
-tests a b c d e f g h i = a && ((b && c && d && e && f && g && h) && i)
-
-told : (a b c d e f g h i : Bool) → tests a b c d e f g h i ≡ true
-    → (a ≡ true) × (b ≡ true) × (c ≡ true) × (d ≡ true) × (e ≡ true) × (f ≡ true) × (g ≡ true) × (h ≡ true) × (i ≡ true)
-told a b c d e f g h i all = search (and-left, and-right) depth 12
-
-given : {a b c d e f g h i : Bool} → a ≡ true → b ≡ true → c ≡ true → d ≡ true → e ≡ true → f ≡ true → g ≡ true → h ≡ true → i ≡ true → tests a b c d e f g h i ≡ true
-given pa pb pc pd pe pf pg ph pi = both pa (both (both (both (both (both (both (both pb pc) pd) pe) pf) pg) ph) pi)
-
-module _ (p : Pieces) where
-  pub possible-told : possiblePieces p ≡ true → (goodBlock (p .mount .volume .block) ≡ true) × BoundedReceived (p .received)
-  unfolding possiblePieces
-  possible-told h =
-      let x = p .received in
-      let i = x .intake in
-      let w = i .walk in
-      let t =
-      told (goodBlock (p .mount .volume .block)) (leb (i .count) mostZones) (leb (w .number) (i .count)) (leb (w .expected) (2 ^ 40))
-      (leb (w .run .capacity) (w .expected)) (leb (w .cnvs) (w .number)) (leb (w .seqs) (w .number)) (leb (i .active) (w .seqs)) (ltb (x .held) (unitBytes i)) h in
-      let few : i .count ≤ mostZones = leb-true _ _ (t .1) in
-      let inside : w .number ≤ i .count = leb-true _ _ (t .2) in (
-        t .0,
-        record {
-          intake = record {
-            walk = record {
-              number = omega arith;
-              expected = leb-true _ _ (t .3);
-              run = leb-true _ _ (t .4);
-              cnvs = leb-true _ _ (t .5);
-              seqs = leb-true _ _ (t .6);
-            };
-            count = few;
-            number = inside;
-            active = leb-true _ _ (t .7);
-          };
-          held = ltb-true _ _ (t .8);
-        },
-      )
-
-  pub possible-given : goodBlock (p .mount .volume .block) ≡ true → BoundedReceived (p .received) → possiblePieces p ≡ true
-  unfolding possiblePieces
-  possible-given good b =
-      let i = b .intake in
-      let w = i .walk in
-      given good (le-leb _ _ (i .count)) (le-leb _ _ (i .number)) (le-leb _ _ (w .expected)) (le-leb _ _ (w .run)) (le-leb _ _ (w .cnvs)) (le-leb _ _ (w .seqs))
-      (le-leb _ _ (i .active)) (lt-ltb _ _ (b .held))

@@ -1,12 +1,12 @@
-use Rattle.pieces.specs.Bytes.{unitTaken}
+use Rattle.receiving.specs.Bytes.{unitTaken}
 use Rattle.intake.specs.Steps.{Taking}
-use Rattle.pieces.proofs.Units.{not-complete, goes-on-in}
-use Rattle.pieces.proofs.Zones.{passing-one}
+use Rattle.receiving.proofs.Units.{not-complete, goes-on-in}
+use Rattle.receiving.proofs.Zones.{passing-one}
 use borrow.Author.Tests.{eq-eqb, ne-eqb}
 use native.Mathlib.Omega.{arith}
 use borrow.Author.Needs.{needs}
-use Rattle.pieces.proofs.take_unit.Statement.{statement}
-use Rattle.pieces.proofs.take_unit.Tie as tie
+use Rattle.receiving.proofs.take_unit.Statement.{statement}
+use Rattle.receiving.proofs.take_unit.Tie as tie
 
 take-header-requires : tie.Need-take-header-requires
 take-header-requires c κs = search needs

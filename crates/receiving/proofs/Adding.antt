@@ -18,11 +18,11 @@ use Rattle.intake.specs.declared.Intake.{Intake}
 use Rattle.intake.specs.Steps.{Taking, headerTaken, zoneTaken}
 use Rattle.intake.specs.Facts.{BoundedIntake}
 use Rattle.intake.proofs.Bounds.{header-counts, zone-kept}
-use Rattle.pieces.specs.declared.Received.{Received}
-use Rattle.pieces.specs.Bytes.{Receiving, unitBytes, complete, unitTaken, wholly, extraByte, between, fed}
-use Rattle.pieces.specs.Facts.{BoundedReceived, goesOn, JustTaken}
-use Rattle.pieces.proofs.Feeding.{takingOf, withPart, fed-refused, fed-extra, fed-part, fed-unit}
-use Rattle.pieces.proofs.Units.{not-complete, goes-on-in}
+use Rattle.receiving.specs.declared.Received.{Received}
+use Rattle.receiving.specs.Bytes.{Receiving, unitBytes, complete, unitTaken, wholly, extraByte, between, fed}
+use Rattle.receiving.specs.Facts.{BoundedReceived, goesOn, JustTaken}
+use Rattle.receiving.proofs.Feeding.{takingOf, withPart, fed-refused, fed-extra, fed-part, fed-unit}
+use Rattle.receiving.proofs.Units.{not-complete, goes-on-in}
 
 -- after a header that isn't refused there are zones to come, and a zone leaves their number as it is
 pub unit-counts : (r : Rule) (t : Taking) (b : List ℕ) → BoundedIntake (t .intake) → complete (t .intake) ≡ false

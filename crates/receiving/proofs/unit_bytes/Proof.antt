@@ -1,6 +1,6 @@
 use borrow.Author.Tests.{eq-eqb, ne-eqb}
-use Rattle.pieces.proofs.unit_bytes.Statement.{statement}
-use Rattle.pieces.proofs.unit_bytes.Tie as tie
+use Rattle.receiving.proofs.unit_bytes.Statement.{statement}
+use Rattle.receiving.proofs.unit_bytes.Tie as tie
 
 returns : tie.Need-returns
 returns c = rw (eq-eqb (c .before .before .args .intake .count) 0 (c .if1 .taken))

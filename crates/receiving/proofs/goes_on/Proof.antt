@@ -1,6 +1,6 @@
 use borrow.Author.Needs.{needs}
-use Rattle.pieces.proofs.goes_on.Statement.{statement}
-use Rattle.pieces.proofs.goes_on.Tie as tie
+use Rattle.receiving.proofs.goes_on.Statement.{statement}
+use Rattle.receiving.proofs.goes_on.Tie as tie
 
 enum-told : tie.Need-enum-told
 enum-told c = search needs

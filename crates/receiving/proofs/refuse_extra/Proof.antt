@@ -1,8 +1,8 @@
 use borrow.Author.Tests.{lt-ltb, le-ltb}
 use native.Mathlib.Omega.{arith}
 use borrow.Author.Needs.{needs}
-use Rattle.pieces.proofs.refuse_extra.Statement.{statement}
-use Rattle.pieces.proofs.refuse_extra.Tie as tie
+use Rattle.receiving.proofs.refuse_extra.Statement.{statement}
+use Rattle.receiving.proofs.refuse_extra.Tie as tie
 
 refused-with-requires : tie.Need-refused-with-requires
 refused-with-requires c κs = search needs

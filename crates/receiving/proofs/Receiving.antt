@@ -3,7 +3,7 @@
 use Prim.Native.Nat.{ℕ, _+_, _-_, _≤_, _<_}
 use native.Mathlib.Omega.{arith}
 use native.Mathlib.Nat.{le-of-eq}
-use mathlib.Core.Path.{_≡_, refl, sym, ap, _∙_}
+use mathlib.Core.Path.{_≡_, sym, ap, _∙_}
 use mathlib.Core.Bool.{true}
 use mathlib.Core.List.{List}
 use lib.ListN.{length, take, drop, take-append-drop, length-drop}
@@ -13,12 +13,12 @@ use Rattle.zones.specs.Zone.{zoneBytes}
 use Rattle.intake.specs.declared.Rule.{Rule}
 use Rattle.intake.specs.declared.Intake.{Intake}
 use Rattle.intake.specs.Facts.{BoundedIntake}
-use Rattle.pieces.specs.declared.Received.{Received}
-use Rattle.pieces.specs.Bytes.{Receiving, wholly, between, fed}
-use Rattle.pieces.specs.Facts.{BoundedReceived, goesOn, JustTaken}
-use Rattle.pieces.proofs.Feeding.{fed-join}
-use Rattle.pieces.proofs.Bounds.{fed-bounded}
-use Rattle.pieces.proofs.Adding.{just-taken}
+use Rattle.receiving.specs.declared.Received.{Received}
+use Rattle.receiving.specs.Bytes.{Receiving, wholly, between, fed}
+use Rattle.receiving.specs.Facts.{BoundedReceived, goesOn, JustTaken}
+use Rattle.receiving.proofs.Feeding.{fed-join}
+use Rattle.receiving.proofs.Bounds.{fed-bounded}
+use Rattle.receiving.proofs.Adding.{just-taken}
 
 -- what is bounded stays so
 pub first-bounded : (r : Rule) (s : Receiving) (cs : List ℕ) {x : Received} {cnv seq : List ℕ} → BoundedReceived (s .received)
