@@ -7,7 +7,7 @@ ghost use Rattle.types.specs.declared.Call.{Call};
 ghost use Rattle.engine.specs.Engine.{Input};
 ghost use Rattle.step_words.specs.Words.{Completion, completionOf, stepWords};
 ghost use Rattle.mount_call_words.specs.Words.{mountGiven, findWords, showWords};
-ghost use Rattle.pieces_words.specs.Words.{beginGiven, pieceGiven, endGiven};
+ghost use Rattle.pieces_call_words.specs.Words.{beginGiven, pieceGiven, endGiven};
 ghost use Rattle.crc32.specs.Crc.{crc32};
 ghost use Rattle.format_words.specs.Words.{formatWords, fieldsWords};
 use types::Call;
@@ -226,7 +226,7 @@ pub extern "C" fn zonefs_begin(
 ) -> u64
     ensures { λ r. ⌜ beginGiven block (now (superblock .entry)) (now (options .entry)) «open_limit» «active_limit» (now (w .entry)) (now (a .entry)) ≡ record { number = r; pieces = now (w .exit); answer = now (a .exit) } ⌝ }
 {
-    pieces_words::begin(block, superblock, options, open_limit, active_limit, w, a)
+    pieces_call_words::begin(block, superblock, options, open_limit, active_limit, w, a)
 }
 
 // Takes a piece of the report: stores the rows of the files that it finishes.
@@ -240,7 +240,7 @@ pub extern "C" fn zonefs_piece(
 ) -> u64
     ensures { λ r. ⌜ pieceGiven (now (w .entry)) (now (bytes .entry)) (now (cnv .entry)) (now (seq .entry)) (now (a .entry)) ≡ record { number = r; pieces = now (w .exit); cnv = now (cnv .exit); seq = now (seq .exit); answer = now (a .exit) } ⌝ }
 {
-    pieces_words::piece(w, bytes, cnv, seq, a)
+    pieces_call_words::piece(w, bytes, cnv, seq, a)
 }
 
 // Ends a mount in pieces: fills the words of the mount and of its account.
@@ -253,7 +253,7 @@ pub extern "C" fn zonefs_end(
 ) -> u64
     ensures { λ r. ⌜ endGiven (now (w .entry)) (now (m .entry)) (now (account .entry)) (now (a .entry)) ≡ record { number = r; pieces = now (w .exit); mount = now (m .exit); account = now (account .exit); answer = now (a .exit) } ⌝ }
 {
-    pieces_words::end(w, m, account, a)
+    pieces_call_words::end(w, m, account, a)
 }
 
 // The file of a name.

@@ -2,6 +2,7 @@ pub mod AcceptedAlike
 pub mod AllFinished
 pub mod Arrived
 pub mod Begun
+pub mod Cases
 pub mod Faultless
 pub mod Finished
 pub mod FirstFault

@@ -1,3 +1,2 @@
-pub mod Parts
 pub mod Back
-pub mod Told
+pub mod Parts

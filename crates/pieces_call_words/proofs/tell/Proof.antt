@@ -1,8 +1,8 @@
 use mathlib.Core.Path.{sym}
 use Rattle.answer_words.specs.Answers.{answerWords}
 use borrow.Author.Needs.{needs}
-use Rattle.pieces_words.proofs.tell.Statement.{statement}
-use Rattle.pieces_words.proofs.tell.Tie as tie
+use Rattle.pieces_call_words.proofs.tell.Statement.{statement}
+use Rattle.pieces_call_words.proofs.tell.Tie as tie
 
 verdict-values-requires : tie.Need-verdict-values-requires
 verdict-values-requires c κs = search needs

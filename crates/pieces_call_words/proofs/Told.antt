@@ -14,7 +14,8 @@ use Rattle.answer_words.specs.Answers.{answerWords, written}
 use Rattle.pieces.specs.declared.Pieces.{Pieces}
 use Rattle.pieces.specs.Pieces.{beginOutcome, possiblePieces, pieceOutcome, endOutcome}
 use Rattle.mount_words.specs.Words.{mountWords, accountWords}
-use Rattle.pieces_words.specs.Words.{piecesWords, piecesFrom, roomy, beginGiven, readable, pieceGiven, mountFits, endGiven}
+use Rattle.pieces_words.specs.Words.{piecesWords, piecesFrom}
+use Rattle.pieces_call_words.specs.Words.{roomy, beginGiven, readable, pieceGiven, mountFits, endGiven}
 
 pub begin-told : (block : ℕ) (superblock options : List ℕ) (openLimit activeLimit : ℕ) (w a : List ℕ) (x : Verdict) (p : Pieces) {n : ℕ} {w′ a′ : List ℕ}
     → roomy (length w) (length a) ≡ true → beginOutcome block superblock options openLimit activeLimit ≡ record { answer = x; pieces = p }

@@ -1,12 +1,10 @@
-use mathlib.Core.Path.{_≡_, _∙_, sym}
-use mathlib.Core.Bool.{true, false, _&&_}
+use mathlib.Core.Path.{_∙_, sym}
 use borrow.Author.Tests.{not-true, not-false}
 use Rattle.types.proofs.Tests.{and-left, and-right}
-use Rattle.pieces_words.specs.Words.{readable, mountFits}
-use Rattle.pieces_words.proofs.Told.{end-unreadable, end-impossible, end-told}
+use Rattle.pieces_call_words.proofs.Told.{end-unreadable, end-impossible, end-told}
 use borrow.Author.Needs.{needs}
-use Rattle.pieces_words.proofs.end.Statement.{statement}
-use Rattle.pieces_words.proofs.end.Tie as tie
+use Rattle.pieces_call_words.proofs.end.Statement.{statement}
+use Rattle.pieces_call_words.proofs.end.Tie as tie
 
 mount-fits-requires : tie.Need-mount-fits-requires
 mount-fits-requires c κs = search needs

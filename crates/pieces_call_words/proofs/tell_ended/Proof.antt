@@ -1,8 +1,8 @@
 use mathlib.Core.Path.{sym}
 use Rattle.answer_words.specs.Answers.{answerWords}
 use borrow.Author.Needs.{needs}
-use Rattle.pieces_words.proofs.tell_ended.Statement.{statement}
-use Rattle.pieces_words.proofs.tell_ended.Tie as tie
+use Rattle.pieces_call_words.proofs.tell_ended.Statement.{statement}
+use Rattle.pieces_call_words.proofs.tell_ended.Tie as tie
 
 put-pieces-requires : tie.Need-put-pieces-requires
 put-pieces-requires c κs = search needs

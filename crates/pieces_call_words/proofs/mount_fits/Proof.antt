@@ -3,9 +3,9 @@ use lib.Dec.{leb}
 use borrow.Author.Tests.{leb-true}
 use Rattle.types.proofs.Tests.{and-left, and-right}
 use Rattle.mount_words.specs.Words.{mountLength}
-use Rattle.pieces_words.specs.Words.{mountFits}
-use Rattle.pieces_words.proofs.mount_fits.Statement.{statement}
-use Rattle.pieces_words.proofs.mount_fits.Tie as tie
+use Rattle.pieces_call_words.specs.Words.{mountFits}
+use Rattle.pieces_call_words.proofs.mount_fits.Statement.{statement}
+use Rattle.pieces_call_words.proofs.mount_fits.Tie as tie
 
 returns : tie.Need-returns
 unfolding mountFits

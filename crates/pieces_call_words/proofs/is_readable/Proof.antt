@@ -1,9 +1,9 @@
 use borrow.Author.Tests.{leb-true}
 use Rattle.types.proofs.Tests.{and-left, and-right}
-use Rattle.pieces_words.specs.Words.{readable}
+use Rattle.pieces_call_words.specs.Words.{readable}
 use borrow.Author.Needs.{needs}
-use Rattle.pieces_words.proofs.is_readable.Statement.{statement}
-use Rattle.pieces_words.proofs.is_readable.Tie as tie
+use Rattle.pieces_call_words.proofs.is_readable.Statement.{statement}
+use Rattle.pieces_call_words.proofs.is_readable.Tie as tie
 
 is-pieces-requires : tie.Need-is-pieces-requires
 is-pieces-requires c κs = search needs

@@ -2,9 +2,10 @@ use mathlib.Core.Path.{refl}
 use lib.Dec.{leb}
 use borrow.Author.Tests.{leb-true}
 use Rattle.types.proofs.Tests.{and-left, and-right}
-use Rattle.pieces_words.specs.Words.{piecesLength, roomy}
-use Rattle.pieces_words.proofs.is_roomy.Statement.{statement}
-use Rattle.pieces_words.proofs.is_roomy.Tie as tie
+use Rattle.pieces_words.specs.Words.{piecesLength}
+use Rattle.pieces_call_words.specs.Words.{roomy}
+use Rattle.pieces_call_words.proofs.is_roomy.Statement.{statement}
+use Rattle.pieces_call_words.proofs.is_roomy.Tie as tie
 
 returns : tie.Need-returns
 unfolding roomy

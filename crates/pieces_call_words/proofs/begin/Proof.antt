@@ -1,10 +1,10 @@
 use mathlib.Core.Path.{_∙_, sym}
 use borrow.Author.Tests.{not-true, not-false}
-use Rattle.pieces_words.specs.Words.{beginGiven}
-use Rattle.pieces_words.proofs.Told.{begin-told}
+use Rattle.pieces_call_words.specs.Words.{beginGiven}
+use Rattle.pieces_call_words.proofs.Told.{begin-told}
 use borrow.Author.Needs.{needs}
-use Rattle.pieces_words.proofs.begin.Statement.{statement}
-use Rattle.pieces_words.proofs.begin.Tie as tie
+use Rattle.pieces_call_words.proofs.begin.Statement.{statement}
+use Rattle.pieces_call_words.proofs.begin.Tie as tie
 
 is-roomy-requires : tie.Need-is-roomy-requires
 is-roomy-requires c κs = search needs

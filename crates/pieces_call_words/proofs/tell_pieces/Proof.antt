@@ -1,7 +1,7 @@
 use mathlib.Core.Path.{sym}
 use borrow.Author.Needs.{needs}
-use Rattle.pieces_words.proofs.tell_pieces.Statement.{statement}
-use Rattle.pieces_words.proofs.tell_pieces.Tie as tie
+use Rattle.pieces_call_words.proofs.tell_pieces.Statement.{statement}
+use Rattle.pieces_call_words.proofs.tell_pieces.Tie as tie
 
 put-pieces-requires : tie.Need-put-pieces-requires
 put-pieces-requires c κs = search needs

@@ -1,9 +1,9 @@
 use mathlib.Core.Path.{_∙_, sym}
 use borrow.Author.Tests.{not-true, not-false}
-use Rattle.pieces_words.proofs.Told.{piece-unreadable, piece-impossible, piece-told}
+use Rattle.pieces_call_words.proofs.Told.{piece-unreadable, piece-impossible, piece-told}
 use borrow.Author.Needs.{needs}
-use Rattle.pieces_words.proofs.piece.Statement.{statement}
-use Rattle.pieces_words.proofs.piece.Tie as tie
+use Rattle.pieces_call_words.proofs.piece.Statement.{statement}
+use Rattle.pieces_call_words.proofs.piece.Tie as tie
 
 is-readable-requires : tie.Need-is-readable-requires
 is-readable-requires c κs = search needs
