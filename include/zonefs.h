@@ -34,7 +34,7 @@
  * one mount's memory.
  *
  * On the stack zonefs_mount, zonefs_begin, zonefs_format, zonefs_super_fields and zonefs_checksum take some 10 kB, of which 8 KiB are the checksum's
- * tables; the others take less than 1 kB.
+ * tables; zonefs_piece takes some 3 kB, and the others less than 1 kB.
  *
  * Each function but zonefs_checksum returns one of the numbers below. Where a slice for mount words, account words, pieces words or answer words is too
  * short, one for a uuid, or to read a label into, has another length than it should have, the mount words that are read hold no mount value, the pieces

@@ -72,8 +72,7 @@ module _ (block : ℕ) (superblock options : List ℕ) (openLimit activeLimit : 
       (whole-told _ _ _ _ (joined bs)
       (sym (bytes-come (rule block superblock options openLimit activeLimit cnv seq) (joined bs) cnv seq .ends) ∙ passed-answer _ _ _ c s e))
 
-  pub refused-too :
-      let begin = beginOutcome block superblock options openLimit activeLimit in
+  pub refused-too : let begin = beginOutcome block superblock options openLimit activeLimit in
       RefusedToo x begin (endOutcome (inPieces (started begin cnv seq) bs .pieces))
   unfolding beginOutcome
   refused-too =
