@@ -351,7 +351,7 @@ uint64_t zonefs_mount(uint64_t block, const uint8_t *superblock, size_t superblo
  * long as that mount's. One that it refuses is refused in pieces too, but by its first fault in the order of the bytes.
  * What is held between the pieces stands in the pieces words, and nowhere else: the bytes of a header or of one record that is not whole yet, one run
  * of conventional zones that is not finished yet, a few numbers, and what zonefs_begin has found. What each word means is the library's own. They may
- * be copied or kept, and lent again.
+ * be copied or kept, and lent again. Words that were made up and fit are answered by what they say.
  */
 
 /*

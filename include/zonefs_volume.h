@@ -358,7 +358,7 @@ static inline struct zonefs_volume_answer zonefs_volume_mount(struct zonefs_volu
 
 /*
  * The mount in pieces: begins, takes the report's bytes one piece behind the other, cut anywhere, and ends. Any piece may have no bytes, and then no
- * address either. zonefs.h has the order of the checks, and what makes a row of the volume's tables be written.
+ * address either: a null address is a piece of no bytes, whatever the count. zonefs.h has the order of the checks, and what makes a row of the volume's tables be written.
  * The volume is one to which tables were lent, as for any mount. It is mounted by the end, and until then its mount words are as they were; so one that
  * is in use is no place for the pieces, as its rows would be overwritten.
  * Begins: TAKEN, or refused by 20 to 27 or 33, and pieces that are refused so answer 10 from then on, as a struct of zeros does.

@@ -10,6 +10,7 @@ pub mod Fold
 pub mod GoodHeader
 pub mod Joined
 pub mod NextFault
+pub mod PiecesCome
 pub mod Prefix
 pub mod RefusedToo
 pub mod Rest

@@ -19,6 +19,7 @@ use Rattle.options.specs.Options.{optionsOf}
 use Rattle.report.proofs.Laws.{report-good}
 use Rattle.mount.specs.Mount.{fileZones, aggregated, filesCheck, mountCheck, answerFor, mountAnswerOf, mountAnswer, mountOutcome}
 use Rattle.pieces.specs.Pieces.{Fed, Ended, beginOutcome, endAnswer, endOutcome}
+use Rattle.first_fault.specs.FirstFault.{endFault}
 use Rattle.first_fault.specs.Claims.{joined, started, inPieces, RefusedToo}
 use Rattle.first_fault.proofs.Zonewise.{not-both}
 use Rattle.first_fault.proofs.FirstFault.{bytes-come}
@@ -32,7 +33,7 @@ passed-answer verdict.Passed x y c s h = refl
 passed-answer (verdict.Refused r) x y c s h = let z : _≡_ {A = ℕ} 0 1 = cc in absurd (omega arith)
 
 -- a refusal comes after checks that found it
-refused-answer : (v : Verdict) (x y : ℕ) (r : Refusal) → answerFor v x y ≡ Refused r → v ≡ verdict.Refused r
+pub refused-answer : (v : Verdict) (x y : ℕ) (r : Refusal) → answerFor v x y ≡ Refused r → v ≡ verdict.Refused r
 unfolding answerFor
 refused-answer verdict.Passed x y r h = let z : _≡_ {A = ℕ} 0 1 = cc in absurd (omega arith)
 refused-answer (verdict.Refused q) x y r h = cc
@@ -73,11 +74,13 @@ module _ (block : ℕ) (superblock options : List ℕ) (openLimit activeLimit : 
       (sym (bytes-come (rule block superblock options openLimit activeLimit cnv seq) (joined bs) cnv seq .ends) ∙ passed-answer _ _ _ c s e))
 
   pub refused-too : let begin = beginOutcome block superblock options openLimit activeLimit in
-      RefusedToo x begin (endOutcome (inPieces (started begin cnv seq) bs .pieces))
+      RefusedToo x begin
+      (endFault (blockSectors block) (aggregated superblock) (rowsLent (length cnv)) (rowsLent (length seq)) (joined bs)) (endOutcome (inPieces (started begin cnv seq) bs .pieces))
   unfolding beginOutcome
   refused-too =
       record {
         begins = same-refusal;
+        faulty = λ passed none. no-whole passed (whole-told _ _ _ _ (joined bs) none);
         ends = λ passed c s e.
             not-ended passed c s
             (sym (ap (λ (f : Fed). endOutcome (f .pieces) .answer) (pieces-fed block superblock options openLimit activeLimit cnv seq passed bs)

@@ -76,58 +76,58 @@ header sector count flags = little 8 sector ++ (little 4 count ++ little 4 flags
 
 unfoldable pub faultCases : List Case
 faultCases =
-    -- "29 with zone and reason at the zone's last byte"
+    -- 29 with zone and reason at the zone's last byte
     is (faultSeen true 9 9 (cnv 0 ∷ seq 8 ∷ longSeq 16 ∷ cnv 32 ∷ [])) (4 ∷ 0 ∷ [])
     ∷ is (faultSeen true 9 9 (cnv 0 ∷ seq 8 ∷ seq 24 ∷ [])) (2 ∷ 29 ∷ 2 ∷ 1 ∷ [])
     ∷ is (faultSeen true 9 9 (cnv 0 ∷ untyped 8 ∷ [])) (1 ∷ 29 ∷ 1 ∷ 5 ∷ [])
     ∷ is (faultSeen true 9 9 (unsound 0 ∷ [])) (0 ∷ 29 ∷ 0 ∷ 6 ∷ [])
-    -- "Faults come in byte order": of two bad zones the first; a bad zone before a file that has no row, and after one
+    -- Faults come in byte order: of two bad zones the first; a bad zone before a file that has no row, and after one
     ∷ is (faultSeen true 9 9 (cnv 0 ∷ untyped 8 ∷ unsound 16 ∷ [])) (1 ∷ 29 ∷ 1 ∷ 5 ∷ [])
     ∷ is (faultSeen true 9 0 (cnv 0 ∷ untyped 8 ∷ seq 16 ∷ [])) (1 ∷ 29 ∷ 1 ∷ 5 ∷ [])
     ∷ is (faultSeen true 9 0 (cnv 0 ∷ seq 8 ∷ untyped 16 ∷ [])) (1 ∷ 30 ∷ [])
-    -- "30 at the last byte of the first zone, itself good, of the first file that has no row": a seq file, a cnv file, a run's first zone
+    -- 30 at the last byte of the first zone, itself good, of the first file that has no row: a seq file, a cnv file, a run's first zone
     ∷ is (faultSeen true 9 2 (cnv 0 ∷ seq 8 ∷ seq 16 ∷ seq 24 ∷ [])) (3 ∷ 30 ∷ [])
     ∷ is (faultSeen false 1 9 (cnv 0 ∷ cnv 8 ∷ cnv 16 ∷ [])) (2 ∷ 30 ∷ [])
     ∷ is (faultSeen true 1 9 (cnv 0 ∷ cnv 8 ∷ cnv 16 ∷ seq 24 ∷ cnv 32 ∷ cnv 40 ∷ [])) (4 ∷ 30 ∷ [])
     ∷ is (faultSeen true 0 9 (cnv 0 ∷ seq 8 ∷ cnv 16 ∷ cnv 24 ∷ [])) (2 ∷ 30 ∷ [])
     -- "itself good": a bad zone that has no row either is 29
     ∷ is (faultSeen true 9 0 (cnv 0 ∷ unsound 8 ∷ [])) (1 ∷ 29 ∷ 1 ∷ 6 ∷ [])
-    -- "Zone 0 is no file": it needs no row, of either kind
+    -- Zone 0 is no file: it needs no row, of either kind
     ∷ is (faultSeen true 0 0 (cnv 0 ∷ [])) (1 ∷ 0 ∷ [])
     ∷ is (faultSeen false 1 0 (seq 0 ∷ cnv 8 ∷ [])) (2 ∷ 0 ∷ [])
     ∷ []
 
 unfoldable pub runCases : List Case
 runCases =
-    -- "A file is finished, and its row stored: .. a conventional one, without feature bit 0, with its zone"
+    -- A file is finished, and its row stored: .. a conventional one, without feature bit 0, with its zone
     is (runsSeen 9 false 9 9 (cnv 0 ∷ cnv 8 ∷ longCnv 16 ∷ [])) (8 ∷ 4096 ∷ 16 ∷ 8192 ∷ [])
-    -- "with it, a run by the count's last zone"
+    -- with it, a run by the count's last zone
     ∷ is (runsSeen 3 true 9 9 (cnv 0 ∷ cnv 8 ∷ longCnv 16 ∷ [])) (8 ∷ 12288 ∷ [])
     -- .. where more zones are to follow it isn't finished, but the run before it is
     ∷ is (runsSeen 4 true 9 9 (cnv 0 ∷ cnv 8 ∷ longCnv 16 ∷ [])) []
     ∷ is (runsSeen 9 true 9 9 (cnv 0 ∷ cnv 8 ∷ seq 16 ∷ cnv 24 ∷ [])) (8 ∷ 4096 ∷ [])
-    -- "or by a good zone of another type"
+    -- or by a good zone of another type
     ∷ is (runsSeen 9 true 9 9 (cnv 0 ∷ cnv 8 ∷ longCnv 16 ∷ seq 32 ∷ [])) (8 ∷ 12288 ∷ [])
     -- .. "before a 30 there"
     ∷ is (runsSeen 9 true 9 0 (cnv 0 ∷ cnv 8 ∷ longCnv 16 ∷ seq 32 ∷ [])) (8 ∷ 12288 ∷ [])
     -- a zone that has no row finishes no run of its own
     ∷ is (runsSeen 9 true 1 9 (cnv 0 ∷ cnv 8 ∷ seq 16 ∷ cnv 24 ∷ seq 32 ∷ [])) (8 ∷ 4096 ∷ [])
     ∷ is (runsSeen 2 true 0 9 (cnv 0 ∷ cnv 8 ∷ [])) []
-    -- "A bad zone finishes nothing.", also the count's last
+    -- A bad zone finishes nothing., also the count's last
     ∷ is (runsSeen 9 true 9 9 (cnv 0 ∷ cnv 8 ∷ unsound 16 ∷ [])) []
     ∷ is (runsSeen 3 true 9 9 (cnv 0 ∷ cnv 8 ∷ unsound 16 ∷ [])) []
     ∷ is (runsSeen 9 true 9 9 (cnv 0 ∷ cnv 8 ∷ seq 24 ∷ [])) []
     ∷ is (runsSeen 9 true 9 9 (cnv 0 ∷ cnv 8 ∷ seq 16 ∷ cnv 24 ∷ unsound 32 ∷ [])) (8 ∷ 4096 ∷ [])
     -- .. nor takes from what was finished
     ∷ is (runsSeen 9 false 9 9 (cnv 0 ∷ cnv 8 ∷ unsound 16 ∷ [])) (8 ∷ 4096 ∷ [])
-    -- "Zone 0 is no file and belongs to no run."
+    -- Zone 0 is no file and belongs to no run.
     ∷ is (runsSeen 2 true 9 9 (cnv 0 ∷ cnv 8 ∷ [])) (8 ∷ 4096 ∷ [])
     ∷ is (runsSeen 2 false 9 9 (cnv 0 ∷ cnv 8 ∷ [])) (8 ∷ 4096 ∷ [])
     ∷ is (runsSeen 9 true 9 9 (cnv 0 ∷ seq 8 ∷ [])) []
     ∷ is (runsSeen 1 true 9 9 (cnv 0 ∷ [])) []
     ∷ []
 
--- "28: a bad header (sector, count, flags) at the header's last byte; a missing byte at the end; an extra byte (after the count's last zone) when it arrives"
+-- 28: a bad header (sector, count, flags) at the header's last byte; a missing byte at the end; an extra byte (after the count's last zone) when it arrives
 unfoldable pub headerCases : List Case
 headerCases =
     -- a part of a header, good or bad
@@ -153,7 +153,7 @@ lengthCases =
 
 unfoldable pub lastByteCases : List Case
 lastByteCases =
-    -- "29 .. at the zone's last byte", and the same at the end; an extra byte comes later
+    -- 29 .. at the zone's last byte, and the same at the end; an extra byte comes later
     is (bytesTold (take 79 (encodeReport (untyped 0 ∷ [])))) (0 ∷ 28 ∷ [])
     ∷ is (bytesTold (encodeReport (untyped 0 ∷ []))) (29 ∷ 0 ∷ 5 ∷ 29 ∷ 0 ∷ 5 ∷ [])
     ∷ is (bytesTold (encodeReport (untyped 0 ∷ []) ++ (0 ∷ []))) (29 ∷ 0 ∷ 5 ∷ 29 ∷ 0 ∷ 5 ∷ [])
@@ -162,20 +162,20 @@ lastByteCases =
 -- the rows of files that are finished by these bytes
 unfoldable pub rowCases : List Case
 rowCases =
-    -- "a seq file with its zone": not a byte before its last
+    -- a seq file with its zone: not a byte before its last
     is (seqSeen (encodeReport (cnv 0 ∷ seq 8 ∷ []))) (8 ∷ 4096 ∷ [])
     ∷ is (seqSeen (take 143 (encodeReport (cnv 0 ∷ seq 8 ∷ [])))) []
-    -- "After 28, 29 or 30 the rows of files finished before the fault stay filled"
+    -- After 28, 29 or 30 the rows of files finished before the fault stay filled
     ∷ is (seqSeen (encodeReport (cnv 0 ∷ seq 8 ∷ unsound 16 ∷ []))) (8 ∷ 4096 ∷ [])
     ∷ is (seqSeen (encodeReport (cnv 0 ∷ seq 8 ∷ []) ++ (0 ∷ []))) (8 ∷ 4096 ∷ [])
-    -- "Zone 0 is no file"
+    -- Zone 0 is no file
     ∷ is (seqSeen (encodeReport (seq 0 ∷ longSeq 8 ∷ []))) (8 ∷ 8192 ∷ [])
     -- a run, by the count's last zone
     ∷ is (cnvSeen (encodeReport (cnv 0 ∷ longCnv 8 ∷ []))) (8 ∷ 8192 ∷ [])
     -- .. and one that a cut zone would finish isn't yet
     ∷ is (cnvSeen (take 207 (encodeReport (cnv 0 ∷ cnv 8 ∷ seq 16 ∷ [])))) []
     ∷ is (cnvSeen (encodeReport (cnv 0 ∷ cnv 8 ∷ seq 16 ∷ []))) (8 ∷ 4096 ∷ [])
-    -- "a bad header": none
+    -- a bad header: none
     ∷ is (seqSeen (header 1 1 1)) []
     ∷ []
 

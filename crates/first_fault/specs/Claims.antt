@@ -1,19 +1,23 @@
 -- 02, K4, as it is proved: the claims about a mount whose report arrives in pieces. Each holds for every report, every list of pieces that it is cut into,
 -- and every table (the laws of the same names in `proofs/`).
 use Prim.Native.Nat.{ℕ}
+use mathlib.Core.Bool.{Bool}
 use mathlib.Core.Path.{_≡_}
 use mathlib.Core.List.{List, [], _∷_, _++_}
 use lib.ListN.{length}
 use Rattle.types.specs.declared.Refusal.{Refusal}
+use Rattle.types.specs.Mounts.{emptyMount}
+use Rattle.types.specs.Numbers.{mountNumber}
+use Rattle.types.specs.declared.Verdict.{Verdict}
 use Rattle.types.specs.declared.Verdict.the-variants as verdict
-use Rattle.types.specs.declared.MountAnswer.the-variants.{Mounted}
+use Rattle.types.specs.declared.MountAnswer.the-variants.{Refused, Mounted}
 use Rattle.table.specs.Rows.{rowsLent}
 use Rattle.mount.specs.Fill.{fill}
 use Rattle.mount.specs.Mount.{Mounting}
 use Rattle.intake.specs.declared.Rule.{Rule}
 use Rattle.pieces.specs.declared.Pieces.{Pieces}
 use Rattle.receiving.specs.Bytes.{Receiving, nothingReceived, fed}
-use Rattle.pieces.specs.Pieces.{Beginning, Fed, Ended, pieceOutcome, endCheck}
+use Rattle.pieces.specs.Pieces.{Beginning, Fed, Ended, pieceOutcome, endCheck, endOutcome}
 use Rattle.first_fault.specs.FirstFault.{firstFault, endFault, finishedCnv, finishedSeq}
 
 -- ---- what arrives in pieces
@@ -56,7 +60,23 @@ pub record AcceptedAlike (whole : Mounting) (begin : Beginning) (f : Fed) (e : E
   pub cnv : f .cnv ≡ whole .cnv
   pub seq : f .seq ≡ whole .seq
 
--- "one that it refuses is refused in pieces too": where begin refuses, it refuses alike, and else the end refuses
-pub record RefusedToo (x : Refusal) (begin : Beginning) (e : Ended) : Type 0 where
+-- "one that it refuses is refused in pieces too": where begin refuses, it refuses alike, and else there is a fault, so that the end doesn't mount
+pub record RefusedToo (x : Refusal) (begin : Beginning) (fault : Verdict) (e : Ended) : Type 0 where
   pub begins : (y : Refusal) → begin .answer ≡ verdict.Refused y → y ≡ x
+  pub faulty : begin .answer ≡ verdict.Passed → fault ≡ verdict.Passed → ⊥
   pub ends : begin .answer ≡ verdict.Passed → (cnvs seqs : ℕ) → e .answer ≡ Mounted cnvs seqs → ⊥
+
+-- "with its first fault in byte order .., and the same rows whatever the cuts": of a mount in pieces that are b together. The last piece answers the first
+-- fault; the end too, or a missing byte, and then "no mount is handed out"; without a fault it answers 0
+pub record PiecesCome (unit : ℕ) (aggregate : Bool) (b cnv seq : List ℕ) (f : Fed) (e : Ended) : Type 0 where
+  pub answer : f .answer ≡ firstFault unit aggregate (rowsLent (length cnv)) (rowsLent (length seq)) b
+  pub cnvs : f .cnv ≡ fill cnv (finishedCnv unit aggregate (rowsLent (length cnv)) (rowsLent (length seq)) b)
+  pub seqs : f .seq ≡ fill seq (finishedSeq unit aggregate (rowsLent (length cnv)) (rowsLent (length seq)) b)
+  pub refused : (x : Refusal) → endFault unit aggregate (rowsLent (length cnv)) (rowsLent (length seq)) b ≡ verdict.Refused x
+      → (e .answer ≡ Refused x) × (e .mount ≡ emptyMount)
+  pub mounted : endFault unit aggregate (rowsLent (length cnv)) (rowsLent (length seq)) b ≡ verdict.Passed → mountNumber (e .answer) ≡ 0
+
+-- decided: after a refusal every further piece, whatever tables it is lent, and the end answer the same again and change nothing
+pub record StaysRefused (x : Refusal) (p : Pieces) (b cnv seq : List ℕ) : Type 0 where
+  pub piece : pieceOutcome p b cnv seq ≡ record { answer = verdict.Refused x; pieces = p; cnv = cnv; seq = seq }
+  pub ends : endOutcome p ≡ record { answer = Refused x; mount = emptyMount; pieces = p }

@@ -59,7 +59,7 @@ module _ (unit : ℕ) (aggregate : Bool) (cnvRoom seqRoom : ℕ) where
 
   -- ---- the first fault of bytes
 
-  -- "28: a bad header (sector, count, flags) at the header's last byte; .. an extra byte (after the count's last zone) when it arrives"
+  -- "a missing or extra byte (28) at its place": 28 of a bad header, once it is whole, then the zones' faults, then a byte after the count's last zone
   unfoldable pub firstFault : List ℕ → Verdict
   firstFault b =
       cond (leb headerBytes (length b))
@@ -67,7 +67,7 @@ module _ (unit : ℕ) (aggregate : Bool) (cnvRoom seqRoom : ℕ) where
       (andThen (faultFrom [] (wholeZones b)) (refuse (ltb (reportBytes b) (length b)) BadReport Passed)))
       Passed
 
-  -- ".. a missing byte at the end"
+  -- the same at the end, where bytes are missing
   unfoldable pub endFault : List ℕ → Verdict
   endFault b = andThen (firstFault b) (refuse (ltb (length b) headerBytes || ltb (length b) (reportBytes b)) BadReport Passed)
 
@@ -83,7 +83,7 @@ module _ (unit : ℕ) (aggregate : Bool) (cnvRoom seqRoom : ℕ) where
   lastConventional (z ∷ []) = conventional z
   lastConventional (z ∷ y ∷ zs) = lastConventional (y ∷ zs)
 
-  -- "a good zone of another type, before a 30 there": what comes after these zones finishes their last run. "A bad zone finishes nothing."
+  -- "a good zone of another type, before a 30 there": what comes after these zones finishes their last run. A bad zone finishes nothing.
   abbrev pub endedBy : List Zone → List Zone → Bool
   endedBy before [] = false
   endedBy before (z ∷ zs) = goodZone unit (endOf 0 before) z && not (conventional z)

@@ -38,7 +38,7 @@ refusedWith i x = record { check = Refused x; count = i .count; given = i .given
 
 -- ---- the header
 
--- "28: a bad header (sector, count, flags) at the header's last byte"
+-- "28", at the header's last byte, where its sector, count or flags are bad
 unfoldable pub headerTaken : Intake → List ℕ → Intake
 headerTaken i h =
     cond (goodFields h) (record { check = i .check; count = zoneCount h; given = capacityGiven h; walk = i .walk; active = i .active })
@@ -46,16 +46,16 @@ headerTaken i h =
 
 -- ---- which files a zone begins and finishes
 
--- z begins a file of conventional zones. "Zone 0 is no file and belongs to no run."
+-- z begins a file of conventional zones. Zone 0 is no file and belongs to no run.
 abbrev pub beginsCnv : Bool → Walk → Zone → Bool
 beginsCnv aggregate w z = not (atZone0 w) && conventional z && not (aggregate && w .run .active)
 
--- "with [feature bit 0], a run .. by a good zone of another type": z finishes the run before it
+-- "a run is finished by .. a good zone of another type": with feature bit 0, z finishes the run before it
 abbrev pub endsBefore : Bool → Walk → Zone → Bool
 endsBefore aggregate w z = aggregate && runEnds aggregate (w .run) z
 
--- "a conventional one, without feature bit 0, with its zone; with it, a run by the count's last zone": the zone that led to this walk finishes the
--- run that it belongs to
+-- "a run is finished by the count's last zone", and without feature bit 0 each conventional zone is a file, finished with its zone: the zone that led to
+-- this walk finishes the run that it belongs to
 abbrev pub endsWith : Bool → ℕ → Walk → Bool
 endsWith aggregate count after = after .run .active && (not aggregate || eqb (after .number) count)
 
@@ -69,7 +69,7 @@ putRow asked t i r = cond (asked && ltb i (rowsLent (length t))) (setRow t i r) 
 abbrev pub lacks : Bool → ℕ → ℕ → Bool
 lacks asked i rows = asked && leb rows i
 
--- 30 "at the last byte of the first zone, itself good, of the first file that has no row in the table lent then"; where a shorter table is lent than
+-- "30 is given at the first zone, itself good, of the first file that has no row", by the table that is lent then; where a shorter table is lent than
 -- when a run began, also at the zone that finishes it
 unfoldable pub noRow : Bool → ℕ → Walk → Zone → ℕ → ℕ → Bool
 noRow aggregate count w z cnvRows seqRows =
@@ -114,7 +114,7 @@ goodTaken r s z =
     })
     (filed r (record { intake = s .intake; cnv = runStored (r .aggregate) (s .intake .walk) z (s .cnv); seq = s .seq }) z)
 
--- "29 with zone and reason at the zone's last byte"; "A bad zone finishes nothing."
+-- "a zone's fault at its last byte": 29 with its number and reason. A bad zone finishes nothing.
 unfoldable pub zoneTaken : Rule → Taking → Zone → Taking
 zoneTaken r s z =
     cond (goodZone (r .unit) (s .intake .walk .expected) z) (goodTaken r s z)

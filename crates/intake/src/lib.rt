@@ -203,7 +203,6 @@ fn file_zone(
     requires { ⌜ Ready intake × Bounded z × (z .start ≡ intake .walk .expected) × (after ≡ stepped (rule .aggregate) (intake .walk) z) ⌝ }
     ensures { λ r. ⌜ filed rule (record { intake = intake; cnv = now (cnv .entry); seq = now (seq .entry) }) z ≡ record { intake = r; cnv = now (cnv .exit); seq = now (seq .exit) } ⌝ }
 {
-    let check = intake.check;
     let walk = intake.walk;
     let run = after.run;
     put_run(

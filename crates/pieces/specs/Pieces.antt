@@ -1,4 +1,4 @@
--- 02, K4: a mount whose report arrives in pieces: begin, any number of pieces, and the end. "A struct by value; nothing else" is held between them.
+-- 02, K4: a mount whose report arrives in pieces: begin, any number of pieces, and the end. A struct by value; nothing else is held between them.
 use Prim.Native.Nat.{ℕ, _^_}
 use mathlib.Core.List.{List}
 use mathlib.Core.Bool.{Bool, false, cond, not, _&&_}
@@ -24,9 +24,9 @@ use Rattle.receiving.specs.declared.Received.{Received}
 use Rattle.pieces.specs.declared.Pieces.{Pieces}
 use Rattle.receiving.specs.Bytes.{Receiving, unitBytes, complete, nothingReceived, fed}
 
--- ---- begin: "answers 0 or 20 to 27 and 33 exactly as the whole mount does"
+-- ---- begin: answers 0 or 20 to 27 and 33 exactly as the whole mount does
 
--- "what begin found": the mount value, of no files yet
+-- what begin found: the mount value, of no files yet
 abbrev pub foundMount : ℕ → SuperBlock → Options → ℕ → ℕ → Mount
 foundMount block fields options openLimit activeLimit =
     record { volume = volumeOf 0 0 block fields options; readonly = false; account = accountOf 0 openLimit activeLimit }
@@ -52,7 +52,7 @@ beginOutcome block superblock options openLimit activeLimit =
           (foundMount block (superRead superblock .fields) (optionsOf options) openLimit activeLimit) (superRead superblock .fields .aggregate);
     }
 
--- ---- which values can be held: a good block, and numbers within what any report leads to; all else answers 10
+-- ---- which values are gone on with: a good block, and numbers of which no sum wraps, also where no report leads to them; all else answers 10
 
 abbrev pub possibleIntake : Intake → Bool
 possibleIntake i =
@@ -90,7 +90,7 @@ pieceOutcome p bytes cnv seq =
 
 -- ---- the end
 
--- "28: .. a missing byte at the end"
+-- "a missing or extra byte (28) at its place": a byte that is missing, at the end
 unfoldable pub endCheck : Intake → Verdict
 endCheck i = andThen (i .check) (refuse (not (complete i)) BadReport verdict.Passed)
 
@@ -118,7 +118,7 @@ withFiles m cnvs seqs active =
       };
     }
 
--- "hands out the mount value and the account, or refuses"
+-- what the end hands out; after a refusal "no mount is handed out"
 abbrev pub endMount : MountAnswer → Mount → Intake → Mount
 endMount (Refused x) m i = emptyMount
 endMount (Mounted cnvs seqs) m i = withFiles m cnvs seqs (i .active)

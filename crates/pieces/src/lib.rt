@@ -20,9 +20,6 @@ use types::answers::and_then;
 use types::answers::refuse;
 use types::units;
 
-// No zone ends past this sector: 2 ^ 40.
-const LAST_SECTOR: u64 = 1099511627776;
-
 // A mount in pieces: what begin found, as a mount value of no files yet, whether neighbouring conventional zones are one file, and what
 // has been received.
 pub struct Pieces {
@@ -111,7 +108,7 @@ fn possible_intake(intake: Intake) -> bool
     let run = walk.run;
     (intake.count <= units::MOST_ZONES)
         & (walk.number <= intake.count)
-        & (walk.expected <= LAST_SECTOR)
+        & (walk.expected <= units::LAST_SECTOR)
         & (run.capacity <= walk.expected)
         & (walk.cnvs <= walk.number)
         & (walk.seqs <= walk.number)
@@ -126,7 +123,7 @@ fn possible_received(received: Received) -> bool
     possible & (received.held < receiving::unit_bytes(intake))
 }
 
-// A value that can be gone on with: a good block, and numbers within what any report leads to.
+// A value that can be gone on with: a good block, and numbers of which no sum wraps.
 pub fn is_possible(pieces: Pieces) -> bool
     ensures { λ r. ⌜ r ≡ possiblePieces pieces ⌝ }
 {

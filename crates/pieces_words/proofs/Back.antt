@@ -22,7 +22,7 @@ use Rattle.answer_words.specs.Answers.{written}
 use Rattle.pieces.specs.declared.Pieces.{Pieces}
 use Rattle.mount_words.specs.Words.{mountWords, accountWords, word, Holds}
 use Rattle.mount_words.proofs.Laws.{BoundedAccount, flag-back, flag-small, written-back}
-use Rattle.pieces_words.specs.Words.{piecesLength, accountAt, checkWords, piecesWords, goodCheck, possibleWords, faultFrom, checkFrom, partFrom, piecesFrom, HoldsPieces}
+use Rattle.pieces_words.specs.Words.{piecesLength, accountAt, checkWords, piecesWords, goodCheck, possibleWords, reasonFrom, checkFrom, partFrom, piecesFrom, HoldsPieces}
 
 -- WHAT THE CHECKS FOUND
 
@@ -33,7 +33,7 @@ pub data Findable : Verdict → Type 0 where
   zone : {n : ℕ} {x : ZoneFault} → n < 2 ^ 32 → 1 ≤ faultCode x → faultCode x ≤ 7 → Findable (Refused (BadZone n x))
   rows : Findable (Refused TooFewRows)
 
-fault-back : (x : ZoneFault) → 1 ≤ faultCode x → faultCode x ≤ 7 → faultFrom (faultCode x) ≡ x
+fault-back : (x : ZoneFault) → 1 ≤ faultCode x → faultCode x ≤ 7 → reasonFrom (faultCode x) ≡ x
 fault-back fault.Nothing low high = absurd (omega arith)
 fault-back fault.Start low high = refl
 fault-back fault.Length low high = refl

@@ -77,8 +77,7 @@ goodCheck number first second =
 abbrev pub goodNumbers : List ℕ → Bool
 goodNumbers w = isFlag (word w 20) && isFlag (word w 23) && isFlag (word w 26) && short (word w 29)
 
--- long enough, every number within its width, and every code one of its codes. What no report leads to is refused when it is gone on with
--- (`possiblePieces`).
+-- long enough, every number within its width, and every code one of its codes. What could wrap is refused when it is gone on with (`possiblePieces`).
 unfoldable pub possibleWords : List ℕ → Bool
 possibleWords w =
     leb piecesLength (length w)
@@ -87,15 +86,15 @@ possibleWords w =
 -- ---- the one of words
 
 -- a reason from its number
-abbrev pub faultFrom : ℕ → ZoneFault
-faultFrom n =
+abbrev pub reasonFrom : ℕ → ZoneFault
+reasonFrom n =
     cond (eqb n 1) fault.Start
     (cond (eqb n 2) fault.Length (cond (eqb n 3) fault.Capacity (cond (eqb n 4) fault.End
     (cond (eqb n 5) fault.Type (cond (eqb n 6) fault.Condition fault.Pointer)))))
 
 abbrev pub refusalFrom : ℕ → ℕ → ℕ → Refusal
 refusalFrom number first second =
-    cond (eqb number 28) BadReport (cond (eqb number 29) (BadZone (shortOf first) (faultFrom second)) TooFewRows)
+    cond (eqb number 28) BadReport (cond (eqb number 29) (BadZone (shortOf first) (reasonFrom second)) TooFewRows)
 
 unfoldable pub checkFrom : ℕ → ℕ → ℕ → Verdict
 checkFrom number first second = cond (eqb number 0) Passed (Refused (refusalFrom number first second))

@@ -8,7 +8,7 @@ ghost use lib.Seq.{sets};
 ghost use Rattle.types.specs.Numbers.{verdictNumber, verdictValues};
 ghost use Rattle.wire.specs.Le.{le};
 ghost use Rattle.answer_words.specs.Answers.{valuesOf, written};
-ghost use Rattle.pieces_words.specs.Words.{piecesLength, checkAt, checkWords, takenAt, takenWords, heldAt, heldWords, piecesWords, goodCheck, goodNumbers, possibleWords, faultFrom, refusalFrom, checkFrom, walkFrom, intakeFrom, partFrom, piecesFrom};
+ghost use Rattle.pieces_words.specs.Words.{piecesLength, checkAt, checkWords, takenAt, takenWords, heldAt, heldWords, piecesWords, goodCheck, goodNumbers, possibleWords, reasonFrom, refusalFrom, checkFrom, walkFrom, intakeFrom, partFrom, piecesFrom};
 use answer_words::AnswerWords;
 use files::Run;
 use files::Walk;
@@ -109,7 +109,7 @@ pub fn is_pieces(w: &[u64]) -> bool
 }
 
 fn fault_from(code: u64) -> ZoneFault
-    ensures { λ r. ⌜ r ≡ faultFrom code ⌝ }
+    ensures { λ r. ⌜ r ≡ reasonFrom code ⌝ }
 {
     match code {
         1 => ZoneFault::Start,

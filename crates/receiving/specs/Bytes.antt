@@ -37,7 +37,7 @@ unitTaken r s b =
     cond (eqb (s .intake .count) 0) (record { intake = headerTaken (s .intake) b; cnv = s .cnv; seq = s .seq })
     (zoneTaken r s (zoneAt (s .intake .given) b 0))
 
--- ---- "one unfinished zone's (or the header's) bytes"
+-- ---- "Held between pieces: one unfinished zone", or the header
 
 abbrev pub noBytes : List ℕ
 noBytes = replicate zoneBytes 0
@@ -62,14 +62,14 @@ collected r s part held =
     (between (unitTaken r (record { intake = s .received .intake; cnv = s .cnv; seq = s .seq }) part))
     (record { received = record { intake = s .received .intake; part = part; held = held }; cnv = s .cnv; seq = s .seq })
 
--- "an extra byte (after the count's last zone) when it arrives" is 28
+-- "a missing or extra byte (28) at its place": a byte after the count's last zone, when it arrives
 abbrev pub extraByte : Received → Received
 extraByte x = record { intake = refusedWith (x .intake) BadReport; part = x .part; held = x .held }
 
 abbrev pub extra : Receiving → Receiving
 extra s = record { received = extraByte (s .received); cnv = s .cnv; seq = s .seq }
 
--- "After 28, 29 or 30 .. every further piece and the end answer the same refusal again and change nothing."
+-- after a refusal every further byte changes nothing, so that it is answered again
 abbrev pub byteAfter : Verdict → Rule → Receiving → ℕ → Receiving
 byteAfter (Refused x) r s c = s
 byteAfter Passed r s c =

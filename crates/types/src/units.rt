@@ -14,7 +14,7 @@ pub const LARGE_BLOCK: u64 = 4096;
 const LARGE_BLOCK_SECTORS: u64 = 8;
 
 // 2 ^ 40: every zone and every file ends by this sector.
-const LAST_SECTOR: u64 = 1099511627776;
+pub const LAST_SECTOR: u64 = 1099511627776;
 
 // The most zones of a report.
 pub const MOST_ZONES: usize = 65536;
