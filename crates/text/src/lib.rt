@@ -1,5 +1,7 @@
 // Bytes of text: two texts compared, and text put into lent bytes from a place on. Each function that puts answers the place after what
 // it put.
+#![tactic(auto)]
+
 ghost use Rattle.std.specs.Prelude.{◌≡◌, [], ◌∷◌, ◌+◌, ◌≤◌, ◌<◌, ◌^◌, length};
 ghost use Rattle.text.specs.Text.{same, decimal, field};
 ghost use Rattle.text.specs.Facts.{field_bytes, Put};

@@ -1,4 +1,6 @@
 // The values that every layer speaks of: files and their rows, commands, the mount, refusals and answers.
+#![tactic(auto)]
+
 pub mod answers; // what each answer is in numbers; a chain of checks
 pub mod codes; // the number of each kind, condition, access, policy and command, and back; of a zone's fault
 pub mod commands; // what a command moves, and whether it is a read or an open

@@ -1,5 +1,7 @@
 // Little-endian numbers at an offset of lent bytes: each width is two numbers of half its bytes, the low one first. And the other way round:
 // numbers, bytes and zeros put into lent bytes from a place on.
+#![tactic(auto)]
+
 ghost use Rattle.std.specs.Prelude.{◌≡◌, ◌+◌, ◌%◌, ◌≤◌, ◌<◌, length, get_or, replicate};
 ghost use Rattle.std.proofs.lemmas.List.Edits.{sets};
 ghost use Rattle.wire.specs.Le.{le, little};
