@@ -9,7 +9,7 @@ use types::{Answer, FindAnswer, FormatAnswer, MountAnswer, Refusal, ShowAnswer, 
 pub const ANSWER_WORDS: usize = 7;
 
 // What goes into the words of an answer.
-#[derive(Drop)]
+#[derive(Clone, Copy)]
 pub struct AnswerWords {
     pub count: u64,
     pub first: u64,

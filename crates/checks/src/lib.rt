@@ -10,14 +10,14 @@ use table::Slot;
 use types::{Access, Condition, FileKind, Mount, Refusal, Row, predicates, units};
 
 // What a lookup finds: a file's row as its words say, or that there is no such file.
-#[derive(Drop)]
+#[derive(Clone, Copy)]
 pub enum Lookup {
     Found(Slot),
     Nothing,
 }
 
 // A row that a call may go on with, or the refusal.
-#[derive(Drop)]
+#[derive(Clone, Copy)]
 pub enum Checked {
     Good(Row),
     Refused(Refusal),

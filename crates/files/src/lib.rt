@@ -10,7 +10,7 @@ use types::Row;
 use zones::Zone;
 
 // A run of conventional zones that may go on, or none. Start and capacity in sectors.
-#[derive(Drop)]
+#[derive(Clone, Copy)]
 pub struct Run {
     pub active: bool,
     pub start: u64,
@@ -20,7 +20,7 @@ pub struct Run {
 
 // Where a walk stands: the number of the next zone and where it must start, the run that is not finished, and how many files of each
 // kind are.
-#[derive(Drop)]
+#[derive(Clone, Copy)]
 pub struct Walk {
     pub number: usize,
     pub expected: u64,

@@ -14,7 +14,7 @@ use types::{FormatAnswer, Refusal, Verdict, ZoneFault, units};
 use zones::Zone;
 
 // The values of a super block, as they stand in it.
-#[derive(Drop)]
+#[derive(Clone, Copy)]
 pub struct SuperFields {
     pub label: [u8; LABEL_BYTES],
     pub uuid: [u8; UUID_BYTES],
@@ -25,7 +25,7 @@ pub struct SuperFields {
 }
 
 // The verdict stands beside the fields, since an enum holds no array. A refusal has the fields all zero.
-#[derive(Drop)]
+#[derive(Clone, Copy)]
 pub struct FieldsRead {
     pub check: Verdict,
     pub fields: SuperFields,

@@ -12,7 +12,7 @@ use table::Slot;
 use types::{Answer, Command, CommandKind, FileKind, Held, Mount, Outstanding, Refusal, Row};
 
 // What a completion is about: the held command with its row, or the refusal.
-#[derive(Drop)]
+#[derive(Clone, Copy)]
 pub enum Pending {
     On(Held, Row),
     Refused(Refusal),

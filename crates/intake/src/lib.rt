@@ -12,7 +12,7 @@ use types::{Refusal, Verdict};
 use zones::Zone;
 
 // By what a report's zones are taken: the block in sectors, whether neighbouring conventional zones are one file, and whether files are opened by hand.
-#[derive(Drop)]
+#[derive(Clone, Copy)]
 pub struct Rule {
     pub unit: u64,
     pub aggregate: bool,
@@ -21,7 +21,7 @@ pub struct Rule {
 
 // What has been taken of a report: what its checks have found, how many zones its header counts (0 before the header is there) and whether it gives
 // capacities, the walk over its zones, and how many files are active.
-#[derive(Drop)]
+#[derive(Clone, Copy)]
 pub struct Intake {
     pub check: Verdict,
     pub count: usize,

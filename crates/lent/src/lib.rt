@@ -6,7 +6,7 @@ ghost use Rattle.lent.specs.Lent.{mount_with, opened, closed, completed, failed,
 use types::{Account, Answer, Call, Mount, Outcome, Volume};
 
 // What is asked of a mount beside its account and its tables: what it fixes, its read-only mark, and the file.
-#[derive(Drop)]
+#[derive(Clone, Copy)]
 pub struct Asked {
     pub volume: Volume,
     pub readonly: bool,
@@ -15,21 +15,21 @@ pub struct Asked {
 }
 
 // The same of a command that failed; `given` says that the zone's record states a capacity.
-#[derive(Drop)]
+#[derive(Clone, Copy)]
 pub struct Failed {
     pub asked: Asked,
     pub given: bool,
 }
 
 // What is answered, and the read-only mark afterwards.
-#[derive(Drop)]
+#[derive(Clone, Copy)]
 pub struct Reply {
     pub answer: Answer,
     pub readonly: bool,
 }
 
 // The same, and the account afterwards.
-#[derive(Drop)]
+#[derive(Clone, Copy)]
 struct Settled {
     reply: Reply,
     account: Account,

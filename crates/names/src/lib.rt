@@ -8,21 +8,21 @@ use types::FileKind;
 const PREFIX_BYTES: usize = 4;
 
 // What a name says: a file, or nothing.
-#[derive(Drop)]
+#[derive(Clone, Copy)]
 pub enum Name {
     Found(FileKind, u32),
     Nothing,
 }
 
 // What the first four bytes of a name say.
-#[derive(Drop)]
+#[derive(Clone, Copy)]
 enum KindRead {
     Is(FileKind),
     Nothing,
 }
 
 // What the rest of a name says.
-#[derive(Drop)]
+#[derive(Clone, Copy)]
 enum NumberRead {
     Is(u32),
     Nothing,

@@ -9,14 +9,14 @@ use options::reading::Reading;
 use types::Refusal;
 
 // A number of the input, or that it ended.
-#[derive(Drop)]
+#[derive(Clone, Copy)]
 enum Number {
     Is(usize),
     Ended,
 }
 
 // What was read of a text, or that the input ended within it, or has a part that is longer than the room for it.
-#[derive(Drop)]
+#[derive(Clone, Copy)]
 enum Text {
     Read(Reading),
     Ended,

@@ -11,21 +11,21 @@ use types::ErrorPolicy;
 const MOST_BYTES: usize = 255;
 
 // What a text of options asks for: the error policy, and the option `explicit-open`.
-#[derive(Drop)]
+#[derive(Clone, Copy)]
 pub struct Asked {
     pub policy: ErrorPolicy,
     pub explicit: bool,
 }
 
 // What a text of options asks for, or that it is no such text.
-#[derive(Drop)]
+#[derive(Clone, Copy)]
 pub enum Options {
     Good(Asked),
     Bad,
 }
 
 // What one piece of it asks for, or that it is no option.
-#[derive(Drop)]
+#[derive(Clone, Copy)]
 enum Piece {
     Policy(ErrorPolicy),
     ExplicitOpen,

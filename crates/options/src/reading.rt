@@ -39,7 +39,7 @@ const ALL_WORDS: u32 = (1 << WORDS) - 1;
 // What is held of a text between two of its bytes: how many there were, up to one more than a text may have; which words the piece so far could still
 // become, and the place of its next byte, which is how many it has, also once it can become no word; and what the pieces before it ask for, or that one
 // was bad.
-#[derive(Drop)]
+#[derive(Clone, Copy)]
 pub struct Reading {
     pub bytes: usize,
     pub candidates: u32,

@@ -15,7 +15,7 @@ use types::{Account, Mount, MountAnswer, Refusal, Verdict, Volume, units};
 
 // A mount in pieces: what begin found, as a mount value of no files yet, whether neighbouring conventional zones are one file, and what
 // has been received.
-#[derive(Drop)]
+#[derive(Clone, Copy)]
 pub struct Pieces {
     pub mount: Mount,
     pub aggregate: bool,
@@ -23,14 +23,14 @@ pub struct Pieces {
 }
 
 // What begin or a piece gives beside the tables.
-#[derive(Drop)]
+#[derive(Clone, Copy)]
 pub struct PiecesOutcome {
     pub answer: Verdict,
     pub pieces: Pieces,
 }
 
 // What the end gives.
-#[derive(Drop)]
+#[derive(Clone, Copy)]
 pub struct EndOutcome {
     pub answer: MountAnswer,
     pub mount: Mount,

@@ -15,7 +15,7 @@ const READ_BYTES: usize = 131072;
 const WRITE_BYTES: usize = 65536;
 
 // How far the input was read: the bytes that are there, whether it has ended, and whether it can't be read.
-#[derive(Drop)]
+#[derive(Clone, Copy)]
 pub struct Input {
     pub have: usize,
     pub ended: bool,
@@ -23,7 +23,7 @@ pub struct Input {
 }
 
 // How far a tape was played: what its last part left, whether the input has ended, and whether there is more to do.
-#[derive(Drop)]
+#[derive(Clone, Copy)]
 pub struct Playing {
     pub kept: Kept,
     pub ended: bool,

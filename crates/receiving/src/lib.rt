@@ -10,7 +10,7 @@ use intake::{Intake, Rule};
 use types::{Refusal, Verdict};
 
 // What has been received of a report: what was taken of it, and the bytes that are there of the next header or zone.
-#[derive(Drop)]
+#[derive(Clone, Copy)]
 pub struct Received {
     pub intake: Intake,
     pub part: [u8; 64],
@@ -18,14 +18,14 @@ pub struct Received {
 }
 
 // What was taken of some bytes, and how many of them were used.
-#[derive(Drop)]
+#[derive(Clone, Copy)]
 struct Progress {
     received: Received,
     used: usize,
 }
 
 // What was taken of some bytes, up to `at`.
-#[derive(Drop)]
+#[derive(Clone, Copy)]
 struct Whole {
     intake: Intake,
     at: usize,

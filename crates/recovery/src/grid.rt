@@ -4,14 +4,14 @@ ghost use Rattle.recovery.specs.Grid.{recovery_grid, rule_of};
 
 use types::{Condition, ErrorPolicy};
 
-#[derive(Drop)]
+#[derive(Clone, Copy)]
 pub enum SizeRule {
     Fixed,
     AsIs,
     Zero,
 }
 
-#[derive(Drop)]
+#[derive(Clone, Copy)]
 pub enum AccessRule {
     Unchanged,
     Read,
@@ -19,7 +19,7 @@ pub enum AccessRule {
 }
 
 // An element of the table.
-#[derive(Drop)]
+#[derive(Clone, Copy)]
 pub struct Rule {
     pub size: SizeRule,
     pub access: AccessRule,

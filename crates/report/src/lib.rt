@@ -25,14 +25,14 @@ const FLAGS_AT: usize = 12;
 // The flag of given capacities. There is no other.
 const CAPACITY_GIVEN: u32 = 1;
 
-#[derive(Drop)]
+#[derive(Clone, Copy)]
 pub struct Reader<'a> {
     pub report: &'a [u8],
     pub next: usize,
 }
 
 // What the checks of a report find, and the walk over its zones, to the end where they find nothing.
-#[derive(Drop)]
+#[derive(Clone, Copy)]
 pub struct ReportRead {
     pub check: Verdict,
     pub walk: Walk,

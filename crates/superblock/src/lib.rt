@@ -53,7 +53,7 @@ const DEFAULT_MODE: u32 = 0o640;
 
 // What a good super block gives: whether conventional zones are aggregated, whose files they are, with which mode, and the
 // file system's uuid.
-#[derive(Drop)]
+#[derive(Clone, Copy)]
 pub struct SuperBlock {
     pub aggregate: bool,
     pub owner: u32,
@@ -63,7 +63,7 @@ pub struct SuperBlock {
 }
 
 // The verdict stands beside the fields, since an enum holds no array. A refusal has the fields all zero.
-#[derive(Drop)]
+#[derive(Clone, Copy)]
 pub struct SuperRead {
     pub check: Verdict,
     pub fields: SuperBlock,

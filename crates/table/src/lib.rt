@@ -28,21 +28,21 @@ const HELD_LENGTH: usize = 7;
 const OPENS: usize = 8;
 
 // What a row's words say: a row, or that the code of its condition or access is none of the codes, and what is outstanding there.
-#[derive(Drop)]
+#[derive(Clone, Copy)]
 pub enum Slot {
     Good(Row),
     Impossible(Outstanding),
 }
 
 // What the word of a condition says.
-#[derive(Drop)]
+#[derive(Clone, Copy)]
 enum ConditionRead {
     Is(Condition),
     Bad,
 }
 
 // What the word of an access says.
-#[derive(Drop)]
+#[derive(Clone, Copy)]
 enum AccessRead {
     Is(Access),
     Bad,

@@ -20,7 +20,7 @@ pub const TABLE_WORDS: usize = ROW_WORDS * TAPE_FILES;
 const LONGEST_RECORD: usize = FAILED_BYTES;
 
 // What playing a tape into lent bytes answers: whether its text fits, and how many of the bytes are the text's.
-#[derive(Drop)]
+#[derive(Clone, Copy)]
 pub struct Played {
     pub whole: bool,
     pub length: usize,

@@ -9,7 +9,7 @@ ghost use Rattle.tape_pieces.specs.Facts.{front_turned, Keeps};
 use tape_turns::Turned;
 
 // What playing a part of a tape left: what its last record did, and how many bytes at the front of the buffer aren't played yet.
-#[derive(Drop)]
+#[derive(Clone, Copy)]
 pub struct Kept {
     pub turned: Turned,
     pub left: usize,

@@ -51,14 +51,14 @@ const LIMITS_BYTES: usize = 8;
 const ACTIVE_LIMIT_AT: usize = 4;
 
 // The two bytes of a mark.
-#[derive(Drop)]
+#[derive(Clone, Copy)]
 pub struct Letters {
     pub first: u8,
     pub second: u8,
 }
 
 // The mark of a record after `MO`.
-#[derive(Drop)]
+#[derive(Clone, Copy)]
 pub enum Mark {
     Read,
     Write,
@@ -72,7 +72,7 @@ pub enum Mark {
 }
 
 // A record after `MO`.
-#[derive(Drop)]
+#[derive(Clone, Copy)]
 pub enum Record {
     // A call: the byte of the file's kind, its number, and the call.
     OnFile(u8, u32, Call),

@@ -12,7 +12,7 @@ use tape_records::{CALL_BYTES, Record};
 use types::{Call, Mount, MountAnswer, MountOutcome};
 
 // What a record left: the place after its line, whether the tape goes on, the place of the next record, and the mount.
-#[derive(Drop)]
+#[derive(Clone, Copy)]
 pub struct Turned {
     pub to: usize,
     pub more: bool,

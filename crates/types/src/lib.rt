@@ -9,14 +9,14 @@ pub mod mounts; // the empty mount value, and what calls and completions change 
 pub mod predicates; // tests of a kind, a condition, an access, and of what is outstanding
 pub mod units; // sectors, blocks, and the limits of disks and mounts
 
-#[derive(Drop)]
+#[derive(Clone, Copy)]
 pub enum FileKind {
     Conventional,
     Sequential,
 }
 
 // The condition of a zone, as far as a file can tell.
-#[derive(Drop)]
+#[derive(Clone, Copy)]
 pub enum Condition {
     Healthy,
     ReadOnly,
@@ -24,7 +24,7 @@ pub enum Condition {
 }
 
 // What a file still allows. Write includes read.
-#[derive(Drop)]
+#[derive(Clone, Copy)]
 pub enum Access {
     Nothing,
     Read,
@@ -32,7 +32,7 @@ pub enum Access {
 }
 
 // The mount option `errors=`.
-#[derive(Drop)]
+#[derive(Clone, Copy)]
 pub enum ErrorPolicy {
     RemountRo,
     ZoneRo,
@@ -40,7 +40,7 @@ pub enum ErrorPolicy {
     Repair,
 }
 
-#[derive(Drop)]
+#[derive(Clone, Copy)]
 pub enum CommandKind {
     Read,
     Write,
@@ -52,7 +52,7 @@ pub enum CommandKind {
 }
 
 // What a command that is done moves: the size of its file, and the pointer of its zone.
-#[derive(Drop)]
+#[derive(Clone, Copy)]
 pub enum Movement {
     Stays,
     // By the command's length.
@@ -63,7 +63,7 @@ pub enum Movement {
 }
 
 // A command to the disk. Address and length in bytes; the length is 0 but for reads and writes.
-#[derive(Drop)]
+#[derive(Clone, Copy)]
 pub struct Command {
     pub kind: CommandKind,
     pub address: u64,
@@ -72,7 +72,7 @@ pub struct Command {
 
 // What is outstanding on a file: nothing, an issued command, or a code that is no command's. The last is never stored: it is what the words of
 // a lent table may say, and a completion then answers 10.
-#[derive(Drop)]
+#[derive(Clone, Copy)]
 pub enum Outstanding {
     Idle,
     Busy(Command),
@@ -81,7 +81,7 @@ pub enum Outstanding {
 
 // A file: the one command that it may have outstanding, its first sector, and its capacity and size in bytes. What is outstanding comes first, so that
 // it has the same place in a `table::Slot` that is no row: else each read of a row packs it into bytes.
-#[derive(Drop)]
+#[derive(Clone, Copy)]
 pub struct Row {
     pub outstanding: Outstanding,
     pub start: u64,
@@ -94,7 +94,7 @@ pub struct Row {
 }
 
 // A call on a file, with its arguments: offset and length, or the size wanted. An open is for writing.
-#[derive(Drop)]
+#[derive(Clone, Copy)]
 pub enum Call {
     Read(u64, u64),
     Write(u64, u64),
@@ -105,7 +105,7 @@ pub enum Call {
 }
 
 // An issued command, with the file that it concerns.
-#[derive(Drop)]
+#[derive(Clone, Copy)]
 pub struct Held {
     pub kind: FileKind,
     pub number: u32,
@@ -113,7 +113,7 @@ pub struct Held {
 }
 
 // What a mount fixes for good. `conventional` and `sequential` count the files of each kind.
-#[derive(Drop)]
+#[derive(Clone, Copy)]
 pub struct Volume {
     pub block: u64,
     pub conventional: u32,
@@ -128,7 +128,7 @@ pub struct Volume {
 }
 
 // The running account of sequential files: how many are open for writing and how many active, and the limit of each, where 0 is none.
-#[derive(Drop)]
+#[derive(Clone, Copy)]
 pub struct Account {
     pub opened: u32,
     pub active: u32,
@@ -137,7 +137,7 @@ pub struct Account {
 }
 
 // A mount: what it fixes, its read-only mark, which a completion may set, and its account, which opens, closes and completions correct.
-#[derive(Drop)]
+#[derive(Clone, Copy)]
 pub struct Mount {
     pub volume: Volume,
     pub readonly: bool,
@@ -146,7 +146,7 @@ pub struct Mount {
 
 // What is wrong with a zone, by the test that it fails first, in the order of the tests. The last two are for the record of a failed
 // command, which has to be of its file's zone.
-#[derive(Drop)]
+#[derive(Clone, Copy)]
 pub enum ZoneFault {
     // No field is at fault: of a good zone, and of bytes that are no record.
     Nothing,
@@ -162,7 +162,7 @@ pub enum ZoneFault {
 }
 
 // Why something was refused: the lines of paper 01's table, in its order, and then those of paper 02.
-#[derive(Drop)]
+#[derive(Clone, Copy)]
 pub enum Refusal {
     NoFile,
     Busy,
@@ -197,7 +197,7 @@ pub enum Refusal {
 }
 
 // The values that a refusal tells beside its number.
-#[derive(Drop)]
+#[derive(Clone, Copy)]
 pub enum Values {
     Nothing,
     One(u64),
@@ -205,21 +205,21 @@ pub enum Values {
 }
 
 // A refusal in numbers.
-#[derive(Drop)]
+#[derive(Clone, Copy)]
 pub struct RefusalCode {
     pub number: u64,
     pub values: Values,
 }
 
 // What checks find: nothing, or what the first of them refuses.
-#[derive(Drop)]
+#[derive(Clone, Copy)]
 pub enum Verdict {
     Passed,
     Refused(Refusal),
 }
 
 // What a call or a completion answers: a refusal, a count with nothing more to do, or a command to be done.
-#[derive(Drop)]
+#[derive(Clone, Copy)]
 pub enum Answer {
     Refused(Refusal),
     Done(u64),
@@ -227,56 +227,56 @@ pub enum Answer {
 }
 
 // What a mount answers: a refusal, or the numbers of conventional and of sequential files.
-#[derive(Drop)]
+#[derive(Clone, Copy)]
 pub enum MountAnswer {
     Refused(Refusal),
     Mounted(u32, u32),
 }
 
 // What finding a name answers: a refusal, or the file.
-#[derive(Drop)]
+#[derive(Clone, Copy)]
 pub enum FindAnswer {
     Refused(Refusal),
     Found(FileKind, u32),
 }
 
 // What showing a file answers: a refusal, or its row and the mode shown.
-#[derive(Drop)]
+#[derive(Clone, Copy)]
 pub enum ShowAnswer {
     Refused(Refusal),
     Shown(Row, u32),
 }
 
 // What formatting answers: a refusal, or whether zone 0 must first be finished.
-#[derive(Drop)]
+#[derive(Clone, Copy)]
 pub enum FormatAnswer {
     Refused(Refusal),
     Formatted(bool),
 }
 
 // What a call or a completion gives beside the tables.
-#[derive(Drop)]
+#[derive(Clone, Copy)]
 pub struct Outcome {
     pub answer: Answer,
     pub mount: Mount,
 }
 
 // What a call or a completion stores: nothing, or the row of a file.
-#[derive(Drop)]
+#[derive(Clone, Copy)]
 pub enum Store {
     Nothing,
     Put(FileKind, u32, Row),
 }
 
 // What a call or a completion does: its answer with the mount after it, and what it stores.
-#[derive(Drop)]
+#[derive(Clone, Copy)]
 pub struct Effect {
     pub outcome: Outcome,
     pub store: Store,
 }
 
 // What a mount gives beside the tables.
-#[derive(Drop)]
+#[derive(Clone, Copy)]
 pub struct MountOutcome {
     pub answer: MountAnswer,
     pub mount: Mount,

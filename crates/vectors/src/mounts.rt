@@ -37,7 +37,7 @@ fn print_account(account: Account) {
 }
 
 // What a mount is handed that doesn't stand in the image.
-#[derive(Drop)]
+#[derive(Clone, Copy)]
 struct Given {
     block: u64,
     open_limit: u32,

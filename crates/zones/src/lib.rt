@@ -1,4 +1,6 @@
 // A zone record: decoded by value, what it says of its zone, and which test of good input it fails first.
+#![tactic(auto)]
+
 ghost use Rattle.std.specs.Prelude.{◌≡◌, true, cond, ◌+◌, ◌≤◌, ◌<◌, length};
 ghost use Rattle.types.specs.Blocks.{on_block, whole_blocks};
 ghost use Rattle.zones.specs.Zone.{zone_bytes, zone_at, conventional, sequential, condition_of, healthy, full, written_size, says_size, starts_at, good_length, good_capacity, good_end, good_type, conventional_condition, sequential_condition, good_condition, pointed, points_well, good_pointer};
@@ -9,7 +11,7 @@ use types::units::{LARGE_BLOCK, SECTOR_BYTES};
 use types::{Condition, ZoneFault};
 
 // A zone record. Start, length, write pointer and capacity in sectors of 512 bytes; type and condition are the record's bytes.
-#[derive(Drop)]
+#[derive(Clone, Copy)]
 pub struct Zone {
     pub start: u64,
     pub length: u64,
