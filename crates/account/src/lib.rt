@@ -1,5 +1,7 @@
 // The account of sequential files that are open for writing and of those that are active: which files these are, their limits, and what a
 // changed row does to the counts.
+#![tactic(auto)]
+
 ghost use Rattle.std.specs.Prelude.{◌≡◌, ◌-◌, ◌≤◌, length};
 ghost use Rattle.types.specs.Blocks.{most_files};
 ghost use Rattle.types.specs.Codes.{flag_code};

@@ -1,4 +1,6 @@
 // The checks that all calls share, in their order: 10 of the counts, 1, and 10 of the row.
+#![tactic(auto)]
+
 ghost use Rattle.std.specs.Prelude.{◌≡◌, true, ◌≤◌, length};
 ghost use Rattle.types.specs.Blocks.{good_block};
 ghost use Rattle.table.specs.Rows.{rows_lent};

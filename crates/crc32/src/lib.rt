@@ -1,5 +1,7 @@
 // The super block's checksum: the reflected CRC-32 with polynomial 0xEDB88320, start all ones and no final inversion, eight bytes at
 // a time where there are many.
+#![tactic(auto)]
+
 mod tables; // eight tables of the 256 bytes' remainders
 
 ghost use Rattle.std.specs.Prelude.{◌≡◌, take, drop};

@@ -1,4 +1,6 @@
 // What becomes a file: the rows of a report's zones, by one walk that takes a zone at a time into a small state.
+#![tactic(auto)]
+
 ghost use Rattle.std.specs.Prelude.{◌≡◌, true, ◌≤◌, ◌^◌};
 ghost use Rattle.zones.specs.Zone.{sequential};
 ghost use Rattle.zones.specs.Facts.{Bounded};

@@ -1,4 +1,6 @@
 // What a name says: `cnv/` or `seq/`, and a decimal without a leading zero.
+#![tactic(auto)]
+
 ghost use Rattle.std.specs.Prelude.{[], ◌∷◌};
 ghost use Rattle.names.specs.Facts.{KindTells, NumberTells, NameTells};
 

@@ -1,4 +1,6 @@
 // The mount options, read from their text piece by piece.
+#![tactic(auto)]
+
 pub mod reading; // the text in a single pass, in parts cut anywhere
 
 ghost use Rattle.std.specs.Prelude.{◌≡◌, [], ◌∷◌, ℕ, ◌≤◌, ◌<◌, length, get_or};

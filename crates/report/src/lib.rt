@@ -1,6 +1,8 @@
 // A zone report: its header, a reader that holds the lent report and its next zone number, and the pass that checks its zones and
 // counts its files. Each function over the reader is thin and proved by a walk by hand; `report_zone` does the work. Callers read by
 // `read_zone`, whose parameters are plain.
+#![tactic(auto)]
+
 ghost use Rattle.std.specs.Prelude.{◌≡◌, ◌≤◌, ◌<◌, length};
 ghost use Rattle.types.specs.declared.Verdict.TheVariants.{Passed};
 ghost use Rattle.files.specs.Walk.{begun, walked};

@@ -1,4 +1,6 @@
 // The super block: its checks, and what its fields give.
+#![tactic(auto)]
+
 ghost use Rattle.std.specs.Prelude.{◌≡◌, ◌<◌, ◌≤◌, length, drop};
 ghost use Rattle.superblock.specs.SuperBlock.{uuid_at, tail_place, bit, has_perm, wrong_magic, wrong_checksum, unknown_features, no_owner, wrong_perm, values_check, nonzero, id_of, mode_of, fields_of, fields_check, refused_for, read_as, super_read};
 

@@ -1,6 +1,8 @@
 // A lent table: `ROW_WORDS` words to a row, the start in sectors, the capacity and the size in bytes, the codes of condition and access, and
 // the held command: 1 + its code, or 0 for none, its address and its length in bytes; and how many opens the file has.
 // Everything that takes a row apart or puts one together is here.
+#![tactic(auto)]
+
 ghost use Rattle.std.specs.Prelude.{◌≡◌, ◌<◌, length};
 ghost use Rattle.types.specs.declared.FileKind.TheVariants as files;
 ghost use Rattle.table.specs.Facts.{StoreFits};

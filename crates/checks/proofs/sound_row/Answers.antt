@@ -1,0 +1,7 @@
+use Rattle.checks.specs.Checks.{sound_row}
+use borrow.Author.Rules.{rules}
+use Rattle.checks.proofs.sound_row.Goals as goal
+
+pub returns : goal.returns
+unfolding sound_row
+returns c = cc
