@@ -15,7 +15,7 @@ unfolding report_check refuse
 returns-then-good_header c =
     let good = sym c.good_header.ensures ∙ c.if-good_header.true in
     let e = c.check_zones.ensures in
-    (rw good e.check, e.walk)
+    record { check = rw good e.check; walk = e.walk; bounded = e.bounded }
 
 pub returns-else-good_header : goal.returns-else-good_header
 unfolding report_check refuse
