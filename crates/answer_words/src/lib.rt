@@ -1,4 +1,6 @@
 // An answer in words: how many values, and six words with the values in front and zeros after them.
+#![tactic(auto)]
+
 ghost use Rattle.std.specs.Prelude.{◌≡◌, [], ◌∷◌, ◌≤◌, length};
 ghost use Rattle.types.specs.Numbers.{listed, refusal_values, answer_values, mount_values, find_values, show_values, format_values};
 ghost use Rattle.answer_words.specs.Answers.{answerLength, values_of, valueWords, written};

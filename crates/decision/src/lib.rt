@@ -1,6 +1,8 @@
 // What a call answers on its row, past the checks that all calls share. The option `explicit-open`, block, kind, row and call decide; the mount's
 // read-only mark is looked at once, where a call is dispatched, and its account once, after that. A call's checks are computed and folded, and its
 // answer is made where they are passed.
+#![tactic(auto)]
+
 ghost use Rattle.std.specs.Prelude.{◌≡◌, true, false, ◌+◌, ◌-◌, ◌/◌, ◌^◌, ◌≤◌};
 ghost use Rattle.types.specs.Blocks.{sector_bytes, good_block};
 ghost use Rattle.types.specs.Verdicts.{answer_after};

@@ -82,4 +82,4 @@ module _ (unit : ℕ) (r : Zone) (g : GoodRecord unit r) where
 pub zones_found : (unit at : ℕ) (rs : List Zone) → AllGood unit at rs → ShowsZones rs (map zone_found rs)
 unfolding AllGood
 zones_found unit at [] g = none
-zones_found unit at (r ∷ rs) (g, gs) = next (zone_found_lem unit r (record_told unit r (zone-told unit at r g).1)) (zones_found unit _ rs gs)
+zones_found unit at (r ∷ rs) (g, gs) = next (zone_found_lem unit r (record_told unit r (zone-told unit at r g).1)) (zones_found unit (r.start + r.length) rs gs)

@@ -1,5 +1,7 @@
 // Finding a name and showing a file on a mounted volume: the checks that all calls share, but nothing that is outstanding stands in
 // their way, and nothing changes.
+#![tactic(auto)]
+
 ghost use Rattle.std.specs.Prelude.{◌≡◌};
 ghost use Rattle.inspect.specs.Find.{found_file, find_of};
 ghost use Rattle.inspect.specs.Show.{less_writing, mode_shown, shown, show_of, show_by};

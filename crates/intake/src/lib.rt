@@ -1,4 +1,6 @@
 // One header or zone of a report, as it arrives: what is checked, and which rows are stored in two lent tables.
+#![tactic(auto)]
+
 ghost use Rattle.std.specs.Prelude.{◌≡◌, ◌≤◌, ◌<◌, ◌^◌, length};
 ghost use Rattle.zones.specs.Facts.{Bounded};
 ghost use Rattle.files.specs.Files.{seq_row};

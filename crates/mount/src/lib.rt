@@ -1,4 +1,6 @@
 // A mount: the checks 20 to 30 and 33, and the rows of a report's files, written into two lent tables.
+#![tactic(auto)]
+
 ghost use Rattle.std.specs.Prelude.{◌≡◌, true, cond, ℕ, ◌+◌, ◌≤◌, ◌^◌, length};
 ghost use Rattle.types.specs.Blocks.{good_block, most_files};
 ghost use Rattle.types.specs.Codes.{flag_code};

@@ -1,5 +1,7 @@
 // What a completion makes of its file's row, by the command, the row and the disk's record alone. The mount value and the tables are for
 // the layer above.
+#![tactic(auto)]
+
 pub mod fits; // check 9: when the record of a failed command fits its file
 pub mod grid; // the recovery table
 pub mod success; // the row after a command that was done well

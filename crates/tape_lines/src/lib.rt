@@ -1,4 +1,6 @@
 // The lines that a tape's records print, put into lent bytes.
+#![tactic(auto)]
+
 ghost use Rattle.std.specs.Prelude.{◌≡◌, [], ◌∷◌, ◌+◌, ◌^◌, ◌≤◌, ◌<◌, length, take, set};
 ghost use Rattle.types.specs.Numbers.{listed, refusal_number, refusal_values};
 ghost use Rattle.text.specs.Text.{fields};

@@ -1,4 +1,6 @@
 // The records of a tape, read from its bytes.
+#![tactic(auto)]
+
 ghost use Rattle.std.specs.Prelude.{◌≡◌, true, ◌+◌, ◌≤◌, length};
 ghost use Rattle.report.specs.Report.{header_bytes};
 ghost use Rattle.tape_records.specs.Records.{holds, mark_bytes, pair, letters_of, same_letters, pick, mark_of, letters_at, mark_at, kind_at, number_at, named_bytes, call_bytes, on_file_at, offset_at, length_at, end_mark, end_bytes, end_at, end_record, record_bytes, record_of, record_at, report_start, report_length, mount_place, mount_bytes, limits_place, run_place, stands, starts_well, mount_stands, opens, block_of, super_bytes, report_bytes, option_bytes, open_limit_of, active_limit_of};

@@ -1,0 +1,7 @@
+use Rattle.decision.specs.Decision.{read_checks}
+use borrow.Author.Rules.{rules}
+use Rattle.decision.proofs.read_checks.Goals as goal
+
+pub returns : goal.returns
+unfolding read_checks
+returns c = cc

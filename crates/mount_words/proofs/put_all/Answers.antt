@@ -1,0 +1,6 @@
+use mathlib.Core.Path.{sym}
+use borrow.Author.Rules.{rules}
+use Rattle.mount_words.proofs.put_all.Goals as goal
+
+pub returns : goal.returns
+returns c = (sym c.put_mount.ensures, sym c.put_account.ensures)

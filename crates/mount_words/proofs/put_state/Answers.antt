@@ -1,0 +1,6 @@
+use mathlib.Core.Path.{sym}
+use borrow.Author.Rules.{rules}
+use Rattle.mount_words.proofs.put_state.Goals as goal
+
+pub returns : goal.returns
+returns c = (sym c.put_mark.ensures, sym c.put_counts.ensures)
