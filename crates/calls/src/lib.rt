@@ -1,5 +1,7 @@
 // The calls on a mounted volume: read, write, truncate, flush, open and close. One that issues a command stores it in its file's row, and an open or
 // a close is counted there and in the mount's account.
+#![tactic(auto)]
+
 ghost use Rattle.std.specs.Prelude.{◌≡◌, true, ◌+◌, ◌/◌, ◌^◌, ◌≤◌};
 ghost use Rattle.types.specs.Blocks.{sector_bytes, good_block};
 ghost use Rattle.checks.specs.Checks.{sound_slot};

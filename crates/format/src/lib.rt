@@ -1,5 +1,7 @@
 // The formatter: the super block that is written from given values, and whether zone 0 must first be finished; and the values of a super block,
 // as they stand.
+#![tactic(auto)]
+
 ghost use Rattle.std.specs.Prelude.{◌≡◌, true, ℕ, ◌-◌, ◌≤◌, ◌<◌, List, ◌++◌, length, replicate};
 ghost use Rattle.std.proofs.lemmas.List.Edits.{sets};
 ghost use Rattle.wire.specs.Le.{little};

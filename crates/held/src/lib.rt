@@ -1,4 +1,6 @@
 // The held command of a completion: 10 of the counts, 1, 8, and 10 of the row, which asks whether some call on it would issue the command.
+#![tactic(auto)]
+
 ghost use Rattle.std.specs.Prelude.{◌≡◌, true, ◌+◌, ◌-◌, ◌/◌, ◌≤◌, ◌^◌};
 ghost use Rattle.types.specs.Blocks.{sector_bytes, good_block, bytes_of};
 ghost use Rattle.table.specs.Rows.{outstanding_in};

@@ -1,4 +1,6 @@
 // The bytes of a report as they arrive, cut anywhere: whole zones are taken where they stand in a piece, and what is cut is collected until it is whole.
+#![tactic(auto)]
+
 ghost use Rattle.std.specs.Prelude.{◌≡◌, true, false, cond, ◌≤◌, ◌<◌, ◌+◌, min, ltb, length, take, drop};
 ghost use Rattle.types.specs.declared.Verdict.TheVariants.{Passed};
 ghost use Rattle.zones.specs.Zone.{zone_bytes};

@@ -1,0 +1,12 @@
+use mathlib.Core.Path.{◌∙◌, sym}
+use Rattle.calls.specs.Calls.{effect_by}
+use borrow.Author.Rules.{rules}
+use Rattle.calls.proofs.call_by.Goals as goal
+
+pub returns-then-is_kind : goal.returns-then-is_kind
+unfolding effect_by
+returns-then-is_kind c = simp (sym c.is_kind.ensures ∙ c.if-is_kind.true, c.call.ensures, c.kind_from.ensures)
+
+pub returns-else-is_kind : goal.returns-else-is_kind
+unfolding effect_by
+returns-else-is_kind c = simp (sym c.is_kind.ensures ∙ c.if-is_kind.false, c.refusing.ensures, c.no_kind.ensures)
