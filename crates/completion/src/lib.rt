@@ -1,4 +1,6 @@
 // Completions: what the success or the failure of a file's held command answers, does to the mount, and stores of its row.
+#![tactic(auto)]
+
 ghost use Rattle.std.specs.Prelude.{◌≡◌};
 ghost use Rattle.recovery.specs.Facts.{Fitting};
 ghost use Rattle.account.specs.Facts.{Room};

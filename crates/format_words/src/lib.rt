@@ -1,5 +1,7 @@
 // Formatting, and the values of a super block, for a caller in C: answers as numbers, with their values in words that the caller lends. Memory of
 // another length than is asked for answers 10, and nothing is written.
+#![tactic(auto)]
+
 ghost use Rattle.std.specs.Prelude.{◌≡◌, true, ◌≤◌, length};
 ghost use Rattle.superblock.specs.SuperBlock.{label_length, uuid_length};
 ghost use Rattle.answer_words.specs.Answers.{answerLength};

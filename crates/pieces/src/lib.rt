@@ -1,5 +1,7 @@
 // A mount whose report arrives in pieces, cut anywhere: begin, any number of pieces, each with both tables lent, and the end. Between them a
 // value is held with what begin found, what has been taken of the report, and the bytes of one unfinished header or zone.
+#![tactic(auto)]
+
 ghost use Rattle.std.specs.Prelude.{◌≡◌};
 ghost use Rattle.files.specs.Walk.{cnv_files};
 ghost use Rattle.mount.specs.Mount.{answer_for};

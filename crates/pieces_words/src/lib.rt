@@ -1,5 +1,7 @@
 // What is held of a mount in pieces, in words that a caller in C keeps between its calls. Any words whatever are taken: whether they hold such a value is
 // tested first.
+#![tactic(auto)]
+
 ghost use Rattle.std.specs.Prelude.{◌≡◌, true, ◌+◌, ◌≤◌, length};
 ghost use Rattle.std.proofs.lemmas.List.Edits.{sets};
 ghost use Rattle.types.specs.Numbers.{verdict_number, verdict_values};

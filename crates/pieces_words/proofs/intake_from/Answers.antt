@@ -1,0 +1,5 @@
+use borrow.Author.Rules.{rules}
+use Rattle.pieces_words.proofs.intake_from.Goals as goal
+
+pub returns : goal.returns
+returns c = cc
