@@ -42,8 +42,8 @@ module _ (s : State) (n : ℕ) (r : Row) (w : OpenFile s n r) where
   explicit : Bool
   explicit = s.mount.volume.explicit
 
-  is_open : is_open r ≡ true
-  is_open = lt-ltb 0 r.opens w.opened
+  is_open_lem : is_open r ≡ true
+  is_open_lem = lt-ltb 0 r.opens w.opened
 
   -- with other opens, but still some, it is as active as before
   still_open : (m : ℕ) → 0 < m → is_open (with_opens r m) ≡ true
@@ -51,14 +51,14 @@ module _ (s : State) (n : ℕ) (r : Row) (w : OpenFile s n r) where
 
   still_active : (e : Bool) (m : ℕ) → 0 < m → is_active e r ≡ is_active e (with_opens r m)
   unfolding is_active
-  still_active e m h = rw (is_open, still_open m h)
+  still_active e m h = rw (is_open_lem, still_open m h)
 
   -- neither 11 nor 12: an open that is not the first raises no count
   no_limit : limits_of s.mount.volume.explicit s.mount.account Sequential r Call.Open ≡ Passed
   unfolding limit_check
   no_limit =
       let e = s.mount.volume.explicit in
-      check_passes _ (by e _ _ is_open) (check_passes _ (by₂ e (is_active e r) _ _ (still_active e (r.opens + 1) (omega arith))) refl)
+      check_passes _ (by e _ _ is_open_lem) (check_passes _ (by₂ e (is_active e r) _ _ (still_active e (r.opens + 1) (omega arith))) refl)
     where
       by : {t : Bool} (e u v : Bool) → t ≡ true → e && (not t && u && v) ≡ false
       by true u v h = rw h
@@ -78,7 +78,7 @@ module _ (s : State) (n : ℕ) (r : Row) (w : OpenFile s n r) where
   -- the open itself
   at_once_lem : (e : Bool) → opening e r ≡ Done 0
   unfolding at_once
-  at_once_lem true = rw is_open
+  at_once_lem true = rw is_open_lem
   at_once_lem false = refl
 
   opened_row : (e : Bool) → r.opens < most_opens → open_row e Sequential r ≡ Done 0
@@ -105,7 +105,7 @@ module _ (s : State) (n : ℕ) (r : Row) (w : OpenFile s n r) where
 
   -- one more is answered at once, the account stays, and the file has it
   mount_stays : accounted s.mount Sequential r row ≡ s.mount
-  mount_stays = uncounted s.mount Sequential r row (is_open ∙ sym (still_open (r.opens + 1) (omega arith))) (still_active s.mount.volume.explicit (r.opens + 1) (omega arith))
+  mount_stays = uncounted s.mount Sequential r row (is_open_lem ∙ sym (still_open (r.opens + 1) (omega arith))) (still_active s.mount.volume.explicit (r.opens + 1) (omega arith))
 
   one_more : r.opens < most_opens → step s (open_of n) ≡ record { reply = Done 0; state = after }
   unfolding explicit
@@ -138,7 +138,7 @@ module _ (s : State) (n : ℕ) (r : Row) (w : OpenFile s n r) where
   unfolding counted
   counted-after =
       rw (still_open (r.opens + 1) (omega arith), ← still_active s.mount.volume.explicit (r.opens + 1) (omega arith))
-      (rw is_open at w.reached.counted)
+      (rw is_open_lem at w.reached.counted)
 
   file_after : OpenFile after n row
   file_after =

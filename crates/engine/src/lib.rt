@@ -1,4 +1,6 @@
 // The engine's entry points: a call, a command that was done, and one that failed. Each is one step of the one transition function.
+#![tactic(auto)]
+
 ghost use Rattle.std.specs.Prelude.{◌≡◌};
 ghost use Rattle.types.specs.declared.Mount.{Mount};
 ghost use Rattle.table.specs.Facts.{StoreFits};

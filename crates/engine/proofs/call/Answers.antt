@@ -1,0 +1,11 @@
+use Rattle.engine.specs.Engine.{Input}
+use Rattle.engine.specs.Facts.{state_of}
+use Rattle.engine.proofs.Laws.{applied_steps, effect_fits}
+use borrow.Author.Rules.{rules}
+use Rattle.engine.proofs.call.Goals as goal
+
+pub apply-requires : goal.apply-requires
+apply-requires c = let a = c.args in simp c.call_by-effect.ensures (effect_fits (state_of a.m a.cnv.now a.seq.now) (Input.call a.kind a.number a.x))
+
+pub returns : goal.returns
+returns c = let a = c.args in applied_steps a.m a.cnv.now a.seq.now (Input.call a.kind a.number a.x) c.call_by-effect.ensures c.apply.ensures
