@@ -397,4 +397,4 @@ invariant_step r (stray kind n x) t = invariant_stray r kind n x
 pub invariant_run : {v : Volume} {ks : List FileKind} {w : System} → Invariant v ks w → (es : List Event) → all_truthful w es ≡ true → Invariant v ks (run w es)
 unfolding run all_truthful
 invariant_run r [] t = r
-invariant_run {w = w} r (e ∷ es) t = invariant_run (invariant_step r e (and_left _ _ t)) es (and_right (truthful w e) _ t)
+invariant_run {w = w} r (e ∷ es) t = invariant_run {w = step w e} (invariant_step r e (and_left _ _ t)) es (and_right (truthful w e) _ t)

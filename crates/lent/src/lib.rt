@@ -1,5 +1,7 @@
 // An open, a close and the completions of a mount whose account is lent: it is changed in place. Each thin function over the lent account takes
 // it out whole, has everything decided by a function over the account by value, and stores it back whole.
+#![tactic(auto)]
+
 ghost use Rattle.std.specs.Prelude.{◌≡◌};
 ghost use Rattle.lent.specs.Lent.{mount_with, opened, closed, completed, failed, settled_of, settled_by};
 

@@ -1,5 +1,7 @@
 // A mount in pieces for a caller in C: begin, a piece and the end. What is held between them lives in words that the caller keeps. Any words whatever are
 // taken: those that hold no such value answer 10.
+#![tactic(auto)]
+
 ghost use Rattle.std.specs.Prelude.{◌≡◌, true, ◌≤◌, length};
 ghost use Rattle.types.specs.Numbers.{verdict_number, verdict_values, mount_number, mount_values};
 ghost use Rattle.answer_words.specs.Answers.{answerLength, answerWords, written};

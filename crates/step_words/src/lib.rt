@@ -1,5 +1,7 @@
 // Calls and completions for a caller in C. The mount value lives in words that the caller keeps, its account in words beside them, and an answer is a
 // number, with its values in words that the caller lends. Any words whatever are taken: those that hold no mount value answer 10.
+#![tactic(auto)]
+
 ghost use Rattle.std.specs.Prelude.{◌≡◌, true, ◌≤◌, length};
 ghost use Rattle.types.specs.Numbers.{answer_number, answer_values};
 ghost use Rattle.completion.specs.Completions.{completion_by};

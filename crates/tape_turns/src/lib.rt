@@ -1,4 +1,6 @@
 // One record of a tape: what it does, the line that it prints, and what it leaves.
+#![tactic(auto)]
+
 ghost use Rattle.std.specs.Prelude.{◌≡◌, true, List, ℕ, ◌+◌, ◌≤◌, length};
 ghost use Rattle.engine.specs.Engine.{Input, step};
 ghost use Rattle.engine.specs.Facts.{state_of};

@@ -1,0 +1,6 @@
+use mathlib.Core.Path.{sym}
+use borrow.Author.Rules.{rules}
+use Rattle.pieces_call_words.proofs.tell_pieces.Goals as goal
+
+pub returns : goal.returns
+returns c = let t = c.tell.ensures in (t.0, sym c.put_pieces.ensures, t.1)
