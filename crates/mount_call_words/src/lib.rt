@@ -1,5 +1,7 @@
 // Mounting, finding and showing for a caller in C. A mount value lives in words that the caller keeps, its account in words beside them, and an answer is
 // a number, with its values in words that the caller lends. Any words whatever are taken: those that hold no mount value answer 10.
+#![tactic(auto)]
+
 ghost use Rattle.std.specs.Prelude.{◌≡◌, true, List, ℕ, ◌≤◌, length};
 ghost use Rattle.mount_words.specs.Words.{mount_length, account_length};
 ghost use Rattle.answer_words.specs.Answers.{answerLength};
