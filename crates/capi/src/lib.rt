@@ -1,5 +1,7 @@
 // The library for C: each function takes numbers and lent slices. A mount value lives in words that the caller keeps, its account in words beside them, and
 // an answer is a number, with its values in words that the caller lends. Any words whatever are taken: those that hold no mount value answer 10.
+#![tactic(auto)]
+
 ghost use Rattle.std.specs.Prelude.{◌≡◌, not, eqb};
 ghost use Rattle.types.specs.declared.Call.{Call};
 ghost use Rattle.engine.specs.Engine.{Input};

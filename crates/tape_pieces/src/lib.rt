@@ -1,4 +1,6 @@
 // A tape that is read in pieces: what is played of the bytes that are there, and what is kept of them for the next read.
+#![tactic(auto)]
+
 ghost use Rattle.std.specs.Prelude.{◌≡◌, false, ◌+◌, ◌≤◌, length, take, drop};
 ghost use Rattle.std.proofs.lemmas.List.Edits.{sets};
 ghost use Rattle.tape_lines.specs.Facts.{line_room};
