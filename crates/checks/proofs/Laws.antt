@@ -57,7 +57,7 @@ module _ (m : Mount) (c s : ℕ) (h : counts_fit m c s ≡ true) where
   counts_files Sequential = and_right (files_fit m.volume.conventional c) _ (and_left _ (good_block m.volume.block) counts_rest)
 
   pub counts-lent : (k : FileKind) → files_of k m.volume ≤ rows_lent (of_kind k c s)
-  counts-lent k = leb-true (files_of k m.volume) (rows_lent (of_kind k c s)) (and_left _ (leb (files_of k m.volume) most_files) (counts_files k))
+  counts-lent k = leb-true (files_of k m.volume) (rows_lent (of_kind k c s)) (and_left _ _ (counts_files k))
 
   pub counts_most : (k : FileKind) → files_of k m.volume ≤ most_files
   counts_most k = leb-true (files_of k m.volume) most_files (and_right (leb (files_of k m.volume) (rows_lent (of_kind k c s))) _ (counts_files k))
