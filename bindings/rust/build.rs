@@ -1,4 +1,4 @@
-//! Links the archive that `rt staticlib capi` writes.
+//! Links the archive that `rt lib` writes in the crate `capi`.
 
 use std::env;
 use std::path::{Path, PathBuf};
@@ -10,13 +10,13 @@ fn main() {
     println!("cargo::rerun-if-env-changed={FOLDER}");
     let folder = match env::var_os(FOLDER) {
         Some(folder) => PathBuf::from(folder),
-        None => Path::new(env!("CARGO_MANIFEST_DIR")).join("../../target/staticlib"),
+        None => Path::new(env!("CARGO_MANIFEST_DIR")).join("../../crates/capi/out"),
     };
     let archive = folder.join("libcapi.a");
     println!("cargo::rerun-if-changed={}", archive.display());
     if !archive.is_file() {
         println!(
-            "cargo::error=there is no {}: run `rt staticlib capi` in the repository of the library, \
+            "cargo::error=there is no {}: run `rt lib` in the folder crates/capi of the repository of the library, \
              or set {FOLDER} to the folder that has libcapi.a",
             archive.display()
         );
