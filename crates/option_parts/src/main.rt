@@ -1,11 +1,14 @@
 // Prints what each text of options on standard input asks for, a line to a text: 0, the policy's number and 1 where explicit-open is asked for, or
 // else the refusal. A text is handed over in parts: their number, and then each part, its length and its bytes. Both numbers have two bytes, the low
 // one first. The gate runs it beside the reference program on the same texts.
+#![tactic(auto)]
+
 ghost use Rattle.std.specs.Prelude.{◌≤◌, length as len};
 
-use libc::{STDIN_FILENO, STDOUT_FILENO};
 use options::Options;
 use options::reading::Reading;
+use std::io;
+use std::io::{ErrorKind, Read};
 use types::Refusal;
 
 // A number of the input, or that it ended.
@@ -26,12 +29,26 @@ fn number_of(low: u8, high: u8) -> usize {
     low as usize + 256 * (high as usize)
 }
 
-fn next_number() -> Number {
+// Fills `bytes` from the input. Answers whether there were as many.
+fn read_full<R: Read>(input: &mut R, bytes: &mut [u8]) -> io::Result<bool> {
+    match input.read_exact(bytes) {
+        Ok(()) => Ok(true),
+        Err(e) => {
+            if e.kind() == ErrorKind::UnexpectedEof {
+                Ok(false)
+            } else {
+                Err(e)
+            }
+        }
+    }
+}
+
+fn next_number<R: Read>(input: &mut R) -> io::Result<Number> {
     let mut bytes = [0u8; 2];
-    if io::read_full(STDIN_FILENO, &mut bytes) < 2 {
-        Number::Ended
+    if read_full(input, &mut bytes)? {
+        Ok(Number::Is(number_of(bytes[0], bytes[1])))
     } else {
-        Number::Is(number_of(bytes[0], bytes[1]))
+        Ok(Number::Ended)
     }
 }
 
@@ -43,76 +60,75 @@ fn take_first(reading: Reading, bytes: &[u8], length: usize) -> Reading
 }
 
 // One part more, by way of `space`.
-fn take_part(reading: Reading, space: &mut [u8]) -> Text {
-    let Number::Is(length) = next_number() else {
-        return Text::Ended;
+fn take_part<R: Read>(input: &mut R, reading: Reading, space: &mut [u8]) -> io::Result<Text> {
+    let Number::Is(length) = next_number(input)? else {
+        return Ok(Text::Ended);
     };
     if space.len() < length {
-        return Text::Ended;
+        return Ok(Text::Ended);
     }
-    let got = io::read_full(STDIN_FILENO, &mut space[..length]);
-    if got < length {
-        return Text::Ended;
+    if !read_full(input, &mut space[..length])? {
+        return Ok(Text::Ended);
     }
-    Text::Read(take_first(reading, space, length))
+    Ok(Text::Read(take_first(reading, space, length)))
 }
 
 // A text of so many parts.
-fn take_text(parts: usize, space: &mut [u8]) -> Text {
+fn take_text<R: Read>(input: &mut R, parts: usize, space: &mut [u8]) -> io::Result<Text> {
     let mut reading = options::reading::start();
-    let mut left = parts;
-    while left > 0 {
-        let Text::Read(next) = take_part(reading, space) else {
-            return Text::Ended;
+    for _ in 0..parts {
+        let Text::Read(next) = take_part(input, reading, space)? else {
+            return Ok(Text::Ended);
         };
         reading = next;
-        left -= 1;
     }
-    Text::Read(reading)
+    Ok(Text::Read(reading))
 }
 
-fn print_number(n: u64) {
-    io::print_decimal(STDOUT_FILENO, n);
+fn print_number(rt: &impl Print, n: u64) -> io::Result<()> {
+    print!(rt; "{n}")
 }
 
-fn print_options(options: Options) {
+fn print_options(rt: &impl Print, options: Options) -> io::Result<()> {
     match options {
         Options::Good(asked) => {
             let policy = asked.policy;
-            io::write_all(STDOUT_FILENO, b"0 ");
-            print_number(types::codes::policy_code(policy));
-            io::write_all(STDOUT_FILENO, b" ");
-            print_number(asked.explicit as u64);
+            print!(rt; "0 ")?;
+            print_number(rt, types::codes::policy_code(policy))?;
+            print!(rt; " ")?;
+            print_number(rt, asked.explicit as u64)?;
         }
         Options::Bad => {
             let code = types::answers::refusal_code(Refusal::BadOptions);
-            print_number(code.number);
+            print_number(rt, code.number)?;
         }
     }
-    io::write_all(STDOUT_FILENO, b"\n");
+    println!(rt)
 }
 
 // Reads one text and prints what it asks for. Answers whether there was one.
-fn print_next(space: &mut [u8]) -> bool {
-    let Number::Is(parts) = next_number() else {
-        return false;
+fn print_next<R: Read>(rt: &impl Print, input: &mut R, space: &mut [u8]) -> io::Result<bool> {
+    let Number::Is(parts) = next_number(input)? else {
+        return Ok(false);
     };
-    let Text::Read(reading) = take_text(parts, space) else {
-        return false;
+    let Text::Read(reading) = take_text(input, parts, space)? else {
+        return Ok(false);
     };
-    print_options(options::reading::end(reading));
-    true
+    print_options(rt, options::reading::end(reading))?;
+    Ok(true)
 }
 
-// A proved loop has to end, and nothing says that the input does: the loop counts its turns down from a number that no run uses up.
-fn print_all(space: &mut [u8]) {
-    let mut turns = u64::MAX;
-    while turns > 0 && print_next(space) {
-        turns -= 1;
+// A proved loop has to end, and nothing says that the input does: the loop takes as many turns as no run uses up.
+fn print_all<R: Read>(rt: &impl Print, input: &mut R, space: &mut [u8]) -> io::Result<()> {
+    for _ in 0..u64::MAX {
+        if !print_next(rt, input, space)? {
+            break;
+        }
     }
+    Ok(())
 }
 
-fn main() {
-    let mut space = io::large_buffer();
-    print_all(&mut space);
+fn main(rt: HostRuntime) -> io::Result<()> {
+    let mut space = [0u8; 65536];
+    print_all(&rt, &mut rt.stdin(), &mut space)
 }

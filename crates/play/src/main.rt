@@ -1,11 +1,17 @@
 // Plays a tape, from the file that its argument names or from standard input, and writes the lines that it prints.
 // What is read is played by `tape_pieces`, whose functions say exactly what they do; here is only what reads and writes.
-ghost use Rattle.std.specs.Prelude.{◌≡◌, true, false, ◌≤◌, ◌<◌, length, take};
+#![tactic(auto)]
+
+ghost use Rattle.std.specs.Prelude.{◌≡◌, true, false, ◌≤◌, ◌<◌, length, take, IfOk};
 ghost use Rattle.tape_lines.specs.Facts.{line_room};
 ghost use Rattle.tape_pieces.specs.Pieces.{longest_opening};
 ghost use Rattle.tape_pieces.specs.Facts.{Continues, holding_of};
 
-use libc::{STDERR_FILENO, STDIN_FILENO, STDOUT_FILENO};
+use std::env::{Env, FillError};
+use std::fmt::Display;
+use std::io::{Read, Write};
+use std::rt::Files;
+use std::{fs, io, str};
 use tape::TABLE_WORDS;
 use tape_pieces::Kept;
 
@@ -14,197 +20,195 @@ const READ_BYTES: usize = 131072;
 
 const WRITE_BYTES: usize = 65536;
 
-// How far the input was read: the bytes that are there, whether it has ended, and whether it can't be read.
+// The bytes that a name may have.
+const NAME_BYTES: usize = 4096;
+
+// How far the input was read: the bytes that are there, and whether it has ended.
 #[derive(Clone, Copy)]
 pub struct Input {
     pub have: usize,
     pub ended: bool,
-    pub failed: bool,
 }
 
-// How far a tape was played: what its last part left, whether the input has ended, and whether there is more to do.
+// How far a tape was played: what its last part left, and whether the input has ended.
 #[derive(Clone, Copy)]
 pub struct Playing {
     pub kept: Kept,
     pub ended: bool,
-    pub going: bool,
+}
+
+// Why a tape was played no further.
+#[derive(Clone, Copy)]
+pub enum Failure {
+    Reading(io::Error),
+    Writing(io::Error),
 }
 
 // Reads once, behind the first `have` bytes, which stay as they are.
-fn read_once(fd: i32, b: &mut [u8], have: usize) -> Input
+fn read_once<R: Read>(reader: &mut R, b: &mut [u8], have: usize) -> io::Result<Input>
     requires { have ≤ length b.old }
-    ensures have_le_have { (have ≤ result.have) × (result.have ≤ length b.old) × (result.ended ≡ false → have < result.have) }
+    ensures have_le_have { IfOk result (λ input. (have ≤ input.have) × (input.have ≤ length b.old) × (input.ended ≡ false → have < input.have)) }
     ensures b_unchanged { take have b.new ≡ take have b.old }
 {
-    let got = libc::read(fd, &mut b[have..]);
-    if got < 0 {
-        return Input {
-            have,
-            ended: true,
-            failed: true,
-        };
-    }
-    let n = io::count(got, &b[have..]);
-    Input {
+    let n = reader.read(&mut b[have..])?;
+    Ok(Input {
         have: have + n,
         ended: n == 0,
-        failed: false,
-    }
+    })
 }
 
 // Reads until `b` is full or the input has ended, and nothing where it had; the first `have` bytes stay as they are. A read that isn't the last
 // brings a byte at least, so that this ends.
-fn fill(fd: i32, b: &mut [u8], have: usize, ended: bool) -> Input
+fn fill<R: Read>(reader: &mut R, b: &mut [u8], have: usize, ended: bool) -> io::Result<Input>
     requires { have ≤ length b.old }
-    ensures have_le_have { (have ≤ result.have) × (result.have ≤ length b.old) × (result.ended ≡ false → result.have ≡ length b.old) × (ended ≡ true → (result.have ≡ have) × (result.ended ≡ true)) }
+    ensures have_le_have { IfOk result (λ input. (have ≤ input.have) × (input.have ≤ length b.old) × (input.ended ≡ false → input.have ≡ length b.old) × (ended ≡ true → (input.have ≡ have) × (input.ended ≡ true))) }
     ensures b_unchanged { take have b.new ≡ take have b.old }
 {
-    let mut input = Input {
-        have,
-        ended,
-        failed: false,
-    };
+    let mut input = Input { have, ended };
     while !input.ended & (input.have < b.len()) {
-        input = read_once(fd, b, input.have);
+        input = read_once(reader, b, input.have)?;
     }
-    input
+    Ok(input)
 }
 
-// Writes the lines before `end`. Answers whether they could be written.
-fn write_lines(out: &[u8], end: usize) -> bool
+// Writes the lines before `end`.
+fn write_lines<W: Write>(writer: &mut W, out: &[u8], end: usize) -> Result<(), Failure>
     requires { end ≤ length out.now }
 {
-    let is_written = io::write_all(STDOUT_FILENO, &out[..end]);
-    if !is_written {
-        os::fail(b"standard output");
-    }
-    is_written
+    writer.write_all(&out[..end]).map_err(Failure::Writing)
 }
 
 // Reads behind what is left, and plays on: whatever the piece is that was read, what is written and kept is what `tape_pieces` defines for it.
-fn read_on(
-    fd: i32,
+fn read_on<R: Read>(
+    reader: &mut R,
     kept: Kept,
     ended: bool,
     b: &mut [u8],
     cnv: &mut [u64],
     seq: &mut [u64],
     out: &mut [u8],
-) -> Playing
+) -> Result<Playing, Failure>
     requires { kept.left ≤ length b.old }
-    ensures left_in_bounds { result.kept.left ≤ length b.old }
-    ensures to_in_bounds { result.going ≡ true → result.kept.turned.to ≤ length out.old }
-    ensures continues { result.going ≡ true → Continues (length out.old) (holding_of b.old ended kept cnv.old seq.old) result.ended b.new out.old out.new result.kept cnv.new seq.new }
+    ensures left_in_bounds { IfOk result (λ p. p.kept.left ≤ length b.old) }
+    ensures to_in_bounds { IfOk result (λ p. p.kept.turned.to ≤ length out.old) }
+    ensures continues { IfOk result (λ p. Continues (length out.old) (holding_of b.old ended kept cnv.old seq.old) p.ended b.new out.old out.new p.kept cnv.new seq.new) }
 {
-    let input = fill(fd, b, kept.left, ended);
-    if input.failed {
-        return Playing {
-            kept,
-            ended: true,
-            going: false,
-        };
-    }
+    let input = fill(reader, b, kept.left, ended).map_err(Failure::Reading)?;
     let turned = kept.turned;
     let next = tape_pieces::next_part(b, input.have, input.ended, turned, cnv, seq, out);
-    Playing {
+    Ok(Playing {
         kept: next,
         ended: input.ended,
-        going: true,
-    }
+    })
 }
 
 // Writes the lines of a part and plays on, until the tape is over. A proved loop has to end, and nothing says that the input does: so its turns
-// are counted down, from a number that no run uses up. Answers whether all that was asked for could be read.
-fn play_on(
-    fd: i32,
+// are counted, up to a number that no run uses up.
+fn play_on<R: Read, W: Write>(
+    reader: &mut R,
+    writer: &mut W,
     p: Playing,
     b: &mut [u8],
     cnv: &mut [u64],
     seq: &mut [u64],
     out: &mut [u8],
-) -> bool
-    requires { (p.kept.left ≤ length b.old) × (p.going ≡ true → p.kept.turned.to ≤ length out.old) }
+) -> Result<(), Failure>
+    requires { (p.kept.left ≤ length b.old) × (p.kept.turned.to ≤ length out.old) }
 {
     let mut p = p;
-    let mut turns = u64::MAX;
-    while (0 < turns) & p.going {
+    for _ in 0..u64::MAX {
         let kept = p.kept;
         let turned = kept.turned;
-        let is_written = write_lines(&out[..], turned.to);
-        if !is_written | tape_pieces::is_over(turned.more, p.ended, kept.left) {
-            return true;
+        write_lines(writer, &out[..], turned.to)?;
+        if tape_pieces::is_over(turned.more, p.ended, kept.left) {
+            break;
         }
-        p = read_on(fd, kept, p.ended, b, cnv, seq, out);
-        turns -= 1;
+        p = read_on(reader, kept, p.ended, b, cnv, seq, out)?;
     }
-    p.going
+    Ok(())
 }
 
-// Reads a tape's first bytes, plays the records that open it and those after them, and then the others. Answers as `play_on` does.
-fn play_tape(fd: i32, b: &mut [u8], cnv: &mut [u64], seq: &mut [u64], out: &mut [u8]) -> bool
+// Reads a tape's first bytes, plays the records that open it and those after them, and then the others.
+fn play_tape<R: Read, W: Write>(
+    reader: &mut R,
+    writer: &mut W,
+    b: &mut [u8],
+    cnv: &mut [u64],
+    seq: &mut [u64],
+    out: &mut [u8],
+) -> Result<(), Failure>
     requires { (longest_opening ≤ length b.old) × (line_room ≤ length out.old) }
 {
-    let input = fill(fd, b, 0, false);
-    if input.failed {
-        return false;
-    }
+    let input = fill(reader, b, 0, false).map_err(Failure::Reading)?;
     let kept = tape_pieces::first_part(b, input.have, input.ended, cnv, seq, out);
     let p = Playing {
         kept,
         ended: input.ended,
-        going: true,
     };
-    play_on(fd, p, b, cnv, seq, out)
+    play_on(reader, writer, p, b, cnv, seq, out)
 }
 
-// Plays the tape of an open file, with tables for as many files as there can be. Where it can't be read, it tells so by this name.
-fn play_file(fd: i32, name: &[u8]) {
+// Says on standard error what failed, and why.
+fn tell<D: Display + Drop>(rt: &impl Eprint, what: &str, why: D) {
+    let _ = eprintln!(rt; "{what}: {why}");
+}
+
+// Plays the tape of a reader, with tables for as many files as there can be. Where it can't be read, it tells so by this name.
+fn play_file<R: Read>(rt: &(impl Print + Eprint), reader: &mut R, name: &str) {
     let mut b = [0u8; READ_BYTES];
     let mut out = [0u8; WRITE_BYTES];
     let mut cnv = [0u64; TABLE_WORDS];
     let mut seq = [0u64; TABLE_WORDS];
-    let is_read = play_tape(fd, &mut b, &mut cnv, &mut seq, &mut out);
-    if !is_read {
-        os::fail(name);
+    let mut writer = io::writer(rt);
+    match play_tape(reader, &mut writer, &mut b, &mut cnv, &mut seq, &mut out) {
+        Ok(()) => {}
+        Err(Failure::Reading(e)) => tell(rt, name, e),
+        Err(Failure::Writing(e)) => tell(rt, "standard output", e),
     }
 }
 
 // Plays the tape in the file of this name.
-fn play_named(name: &[u8]) {
-    let fd = os::open_read(name);
-    if fd < 0 {
-        os::fail(name);
-        return;
+fn play_named(rt: &(impl Files + Print + Eprint), name: &str) {
+    match fs::open(rt, name) {
+        Ok(mut file) => play_file(rt, &mut file, name),
+        Err(e) => tell(rt, name, e),
     }
-    play_file(fd, name);
-    libc::close(fd);
 }
 
-fn help(fd: i32) {
-    io::write_all(
-        fd,
-        b"usage: play [FILE]\nPlays the tape in FILE, or on standard input, and prints a line for each of its records from MO on.\n",
+fn help(to: &impl Print) {
+    let _ = to.print(
+        "usage: play [FILE]\nPlays the tape in FILE, or on standard input, and prints a line for each of its records from MO on.\n",
     );
 }
 
-fn main() {
-    if os::arg_count() < 2 {
-        play_file(STDIN_FILENO, b"standard input");
+fn has_argument(rt: &impl Env, i: usize) -> bool {
+    match rt.arg(i, &mut []) {
+        Err(FillError::NotPresent) => false,
+        _ => true,
+    }
+}
+
+fn main(rt: HostRuntime) {
+    if !has_argument(&rt, 1) {
+        play_file(&rt, &mut rt.stdin(), "standard input");
         return;
     }
-    if 2 < os::arg_count() {
-        help(STDERR_FILENO);
+    if has_argument(&rt, 2) {
+        help(&rt.stderr());
         return;
     }
-    let mut name = io::buffer();
-    let n = os::arg(1, &mut name);
-    if os::errno() != 0 {
-        os::fail(b"the name of the tape");
+    let mut name = [0u8; NAME_BYTES];
+    let Ok(n) = rt.arg(1, &mut name) else {
+        tell(&rt, "the name of the tape", "File name too long");
+        return;
+    };
+    let Ok(name) = str::from_utf8(&name[..n]) else {
+        tell(&rt, "the name of the tape", "not UTF-8");
+        return;
+    };
+    if name == "--help" {
+        help(&rt.stdout());
         return;
     }
-    if check::same(&name[..n], b"--help") {
-        help(STDOUT_FILENO);
-        return;
-    }
-    play_named(&name[..n]);
+    play_named(&rt, name);
 }

@@ -3,6 +3,7 @@ ghost use Rattle.std.specs.Prelude.{◌<◌};
 
 use crate::lines::PLACES;
 use crate::printing;
+use crate::printing::Output;
 use report::HEADER_BYTES;
 use superblock::SUPER_BYTES;
 use zones::ZONE_BYTES;
@@ -13,7 +14,7 @@ pub const REPORT_BYTES: usize = HEADER_BYTES + 5 * ZONE_BYTES;
 pub const IMAGE_BYTES: usize = SUPER_BYTES + REPORT_BYTES;
 
 // Stores a word, the lowest byte first.
-fn put(image: &mut [u8; IMAGE_BYTES], at: u64, word: u64) {
+fn put(out: &mut Output, image: &mut [u8; IMAGE_BYTES], at: u64, word: u64) {
     if at <= (IMAGE_BYTES - 8) as u64 {
         let start = at as usize;
         let mut rest = word;
@@ -22,28 +23,34 @@ fn put(image: &mut [u8; IMAGE_BYTES], at: u64, word: u64) {
             rest /= 256;
         }
     } else {
-        printing::bad_line();
+        printing::bad_line(out);
     }
 }
 
 // Stores words. Number `from` is the place of the first of them, the next number is the word, and so on up to number `last`.
-pub fn put_words(image: &mut [u8; IMAGE_BYTES], numbers: &[u64; PLACES], from: usize, last: usize)
+pub fn put_words(
+    out: &mut Output,
+    image: &mut [u8; IMAGE_BYTES],
+    numbers: &[u64; PLACES],
+    from: usize,
+    last: usize,
+)
     requires { last < 32 }
 {
     let mut i = from;
     while i < last {
-        put(image, numbers[i], numbers[i + 1]);
+        put(out, image, numbers[i], numbers[i + 1]);
         i += 2;
     }
 }
 
 // `count` bytes from `from` on.
-pub fn part(image: &[u8], from: usize, count: u64) -> &[u8] {
+pub fn part<'a>(out: &mut Output, image: &'a [u8], from: usize, count: u64) -> &'a [u8] {
     if from <= image.len() {
         if count <= (image.len() - from) as u64 {
             return &image[from..from + count as usize];
         }
     }
-    printing::bad_line();
+    printing::bad_line(out);
     &image[..0]
 }

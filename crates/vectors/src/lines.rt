@@ -2,6 +2,7 @@
 ghost use Rattle.std.specs.Prelude.{◌≤◌, ◌<◌, length};
 
 use crate::printing;
+use crate::printing::Output;
 
 // The numbers of a line stand from place 1 on. There are at most 31.
 pub const PLACES: usize = 32;
@@ -14,14 +15,12 @@ pub fn find(s: &[u8], from: usize, mark: u8) -> usize
     requires { from ≤ length s.now }
     ensures { (from ≤ result) × (result ≤ length s.now) }
 {
-    let mut i = from;
-    while i < s.len() {
+    for i in from..s.len() {
         if s[i] == mark {
             return i;
         }
-        i += 1;
     }
-    i
+    s.len()
 }
 
 // The place after one, where that is not the end.
@@ -40,7 +39,7 @@ pub fn between(s: &[u8], after: u8, until: u8) -> &[u8] {
 }
 
 // The value of a digit; 16 for a byte that may stand between digits.
-fn digit(c: u8) -> u64
+fn digit(out: &mut Output, c: u8) -> u64
     ensures { result ≤ 16 }
 {
     match c {
@@ -48,7 +47,7 @@ fn digit(c: u8) -> u64
         b'a'..=b'f' => (c - b'a') as u64 + 10,
         b' ' | b'=' | b'x' | b'_' => 16,
         _ => {
-            printing::bad_line();
+            printing::bad_line(out);
             16
         }
     }
@@ -64,8 +63,8 @@ fn base_after(base: u64, c: u8) -> u64 {
 }
 
 // A number with one more digit, if the byte is one.
-fn grown(n: u64, base: u64, c: u8) -> u64 {
-    let d = digit(c);
+fn grown(out: &mut Output, n: u64, base: u64, c: u8) -> u64 {
+    let d = digit(out, c);
     if d == 16 {
         n
     } else if base == 16 {
@@ -76,7 +75,7 @@ fn grown(n: u64, base: u64, c: u8) -> u64 {
 }
 
 // A number begins where the base is 0 no longer.
-fn place_after(place: usize, before: u64, base: u64) -> usize
+fn place_after(out: &mut Output, place: usize, before: u64, base: u64) -> usize
     requires { place < 32 }
     ensures { result < 32 }
 {
@@ -89,26 +88,24 @@ fn place_after(place: usize, before: u64, base: u64) -> usize
     if place < PLACES - 1 {
         place + 1
     } else {
-        printing::bad_line();
+        printing::bad_line(out);
         place
     }
 }
 
 // Reads the numbers between the first word of a line and its bar, decimal ones and, after 0x, hexadecimal ones. Answers the place of the last.
-pub fn read_numbers(line: &[u8], to: &mut [u64; PLACES]) -> usize
+pub fn read_numbers(out: &mut Output, line: &[u8], to: &mut [u64; PLACES]) -> usize
     ensures { result < 32 }
 {
     let mut place = 0;
     let mut base = 0;
     let end = find(line, 0, b'|');
-    let mut i = find(line, 0, b' ');
-    while i < end {
+    for i in find(line, 0, b' ')..end {
         let c = line[i];
         let before = base;
         base = base_after(before, c);
-        place = place_after(place, before, base);
-        to[place] = grown(to[place], base, c);
-        i += 1;
+        place = place_after(out, place, before, base);
+        to[place] = grown(out, to[place], base, c);
     }
     place
 }

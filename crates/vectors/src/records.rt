@@ -1,6 +1,7 @@
 // A vector of a zone record: whether it is good input.
 use crate::lines::PLACES;
 use crate::printing;
+use crate::printing::Output;
 use zones::Zone;
 
 // A block of 4,096 bytes, in sectors.
@@ -18,11 +19,11 @@ fn zone_of(numbers: &[u64; PLACES]) -> Zone {
     }
 }
 
-pub fn show(numbers: &[u64; PLACES]) {
+pub fn show(out: &mut Output, numbers: &[u64; PLACES]) {
     let fault = zones::record_fault(zone_of(numbers), UNIT);
     if zones::is_faultless(fault) {
-        printing::text(b" good");
+        printing::text(out, b" good");
     } else {
-        printing::text(b" bad");
+        printing::text(out, b" bad");
     }
 }
