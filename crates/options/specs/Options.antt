@@ -4,7 +4,6 @@ use Rattle.std.specs.Prelude.{ℕ, true, false, cond, length, leb, eqb}
 use Prim.Native.Char.{code}
 use mathlib.Core.List.{List, [], ◌∷◌, foldl}
 use Rattle.text.specs.Text.{ascii, same}
-use Rattle.types.specs.declared.ErrorPolicy.{ErrorPolicy}
 use Rattle.types.specs.declared.ErrorPolicy.TheVariants.{RemountRo, ZoneRo, ZoneOffline, Repair}
 use Rattle.types.specs.declared.Refusal.TheVariants.{BadOptions}
 use Rattle.types.specs.Codes.{flag_code, policy_code}

@@ -1,4 +1,3 @@
-use borrow.Author.Rules.{rules}
 use Rattle.account.proofs.accounted.Goals as goal
 
 pub returns-in-Conventional : goal.returns-in-Conventional

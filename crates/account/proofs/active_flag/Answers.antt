@@ -1,5 +1,4 @@
 use native.Mathlib.Omega.{arith}
-use borrow.Author.Rules.{rules}
 use Rattle.account.proofs.active_flag.Goals as goal
 
 pub returns-then-active_slot : goal.returns-then-active_slot

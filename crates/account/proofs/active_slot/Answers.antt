@@ -1,4 +1,3 @@
-use borrow.Author.Rules.{rules}
 use Rattle.account.proofs.active_slot.Goals as goal
 
 pub returns-in-Good : goal.returns-in-Good

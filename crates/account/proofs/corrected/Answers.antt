@@ -1,5 +1,4 @@
 use Rattle.account.specs.Account.{corrected}
-use borrow.Author.Rules.{rules}
 use Rattle.account.proofs.corrected.Goals as goal
 
 pub returns : goal.returns

@@ -1,7 +1,5 @@
 use native.Mathlib.Omega.{arith}
 use mathlib.Core.Path.{◌≡◌, refl}
-use Prim.Native.Nat.{◌≤◌, ◌-◌}
-use borrow.Author.Rules.{rules}
 use Rattle.account.specs.Account.{is_active}
 use Rattle.account.specs.Counts.{count_in}
 use Rattle.account.proofs.Laws.{count_next, count_most}

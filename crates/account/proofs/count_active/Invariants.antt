@@ -1,10 +1,7 @@
-use native.Mathlib.Omega.{arith}
-use mathlib.Core.Path.{◌≡◌, refl}
+use mathlib.Core.Path.{◌≡◌}
 use Prim.Native.Nat.{◌≤◌, ◌-◌}
-use borrow.Author.Rules.{rules}
 use Rattle.account.specs.Account.{is_active}
 use Rattle.account.specs.Counts.{count_in}
-use Rattle.account.proofs.Laws.{count_next, count_most}
 use Rattle.account.proofs.count_active.Given as goal
 
 abbrev pub invariant-loop-i : goal.invariant-loop-i

@@ -1,5 +1,4 @@
 use Rattle.account.specs.Account.{is_active}
-use borrow.Author.Rules.{rules}
 use Rattle.account.proofs.is_active.Goals as goal
 
 pub returns : goal.returns

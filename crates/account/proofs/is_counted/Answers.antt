@@ -1,5 +1,4 @@
 use Rattle.account.specs.Account.{counted}
-use borrow.Author.Rules.{rules}
 use Rattle.account.proofs.is_counted.Goals as goal
 
 pub returns-in-Conventional : goal.returns-in-Conventional

@@ -1,5 +1,4 @@
 use Rattle.account.specs.Account.{limit_check}
-use borrow.Author.Rules.{rules}
 use Rattle.account.proofs.limit_check.Goals as goal
 
 pub returns : goal.returns

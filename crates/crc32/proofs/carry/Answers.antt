@@ -1,9 +1,9 @@
 use Rattle.crc32.proofs.Fold.{crc_more, crc_done}
 use Rattle.crc32.specs.Crc.{crc_from}
-use lib.ListN.{length, drop}
+use lib.ListN.{drop}
 use native.Mathlib.Omega.{arith}
-use mathlib.Core.Path.{◌≡◌, ap, ◌∙◌, sym}
-use Prim.Native.Nat.{ℕ, ◌≤◌, ◌+◌, ◌-◌}
+use mathlib.Core.Path.{ap, ◌∙◌, sym}
+use Prim.Native.Nat.{ℕ, ◌+◌}
 use borrow.Author.Rules.{rules}
 use Rattle.crc32.proofs.carry.Goals as goal
 

@@ -1,10 +1,7 @@
-use Rattle.crc32.proofs.Fold.{crc_more, crc_done}
 use Rattle.crc32.specs.Crc.{crc_from}
 use lib.ListN.{length, drop}
-use native.Mathlib.Omega.{arith}
-use mathlib.Core.Path.{◌≡◌, ap, ◌∙◌, sym}
-use Prim.Native.Nat.{ℕ, ◌≤◌, ◌+◌, ◌-◌}
-use borrow.Author.Rules.{rules}
+use mathlib.Core.Path.{◌≡◌}
+use Prim.Native.Nat.{◌≤◌}
 use Rattle.crc32.proofs.carry.Given as goal
 
 -- carried on over the bytes that are left, the register gives the whole result

@@ -1,10 +1,10 @@
 use Rattle.crc32.proofs.Fold.{crc_word}
 use Rattle.crc32.specs.Crc.{crc_from}
 use Rattle.wire.specs.Le.{little}
-use lib.ListN.{length, drop}
+use lib.ListN.{drop}
 use native.Mathlib.Omega.{arith}
-use mathlib.Core.Path.{◌≡◌, ap, ◌∙◌}
-use Prim.Native.Nat.{ℕ, ◌≤◌, ◌+◌, ◌-◌}
+use mathlib.Core.Path.{ap, ◌∙◌}
+use Prim.Native.Nat.{ℕ, ◌+◌}
 use borrow.Author.Rules.{rules}
 use Rattle.crc32.proofs.carry_eights.Goals as goal
 

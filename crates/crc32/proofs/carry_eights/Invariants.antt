@@ -1,11 +1,7 @@
-use Rattle.crc32.proofs.Fold.{crc_word}
 use Rattle.crc32.specs.Crc.{crc_from}
-use Rattle.wire.specs.Le.{little}
 use lib.ListN.{length, drop}
-use native.Mathlib.Omega.{arith}
-use mathlib.Core.Path.{◌≡◌, ap, ◌∙◌}
-use Prim.Native.Nat.{ℕ, ◌≤◌, ◌+◌, ◌-◌}
-use borrow.Author.Rules.{rules}
+use mathlib.Core.Path.{◌≡◌}
+use Prim.Native.Nat.{◌≤◌, ◌-◌}
 use Rattle.crc32.proofs.carry_eights.Given as goal
 
 -- carried on over the bytes that are left, the register gives the whole result

@@ -3,7 +3,7 @@ use lib.Bits.{bit_xor, xor_lt}
 use native.Mathlib.Omega.{arith}
 use native.Mathlib.Nat.{div-eq_of_lt}
 use mathlib.Core.Path.{◌≡◌, ◌∙◌, sym, ap}
-use Prim.Native.Nat.{ℕ, ◌-◌, ◌*◌, ◌/◌, ◌^◌, ◌≤◌}
+use Prim.Native.Nat.{ℕ, ◌-◌, ◌*◌, ◌/◌, ◌^◌}
 use borrow.Author.Rules.{rules}
 use Rattle.crc32.proofs.next_eight.Goals as goal
 

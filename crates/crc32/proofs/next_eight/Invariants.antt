@@ -1,10 +1,6 @@
-use Rattle.crc32.proofs.Words.{zeros, by_word, by_turn}
-use lib.Bits.{bit_xor, xor_lt}
-use native.Mathlib.Omega.{arith}
-use native.Mathlib.Nat.{div-eq_of_lt}
-use mathlib.Core.Path.{◌≡◌, ◌∙◌, sym, ap}
-use Prim.Native.Nat.{ℕ, ◌-◌, ◌*◌, ◌/◌, ◌^◌, ◌≤◌}
-use borrow.Author.Rules.{rules}
+use Rattle.crc32.proofs.Words.{zeros}
+use mathlib.Core.Path.{◌≡◌}
+use Prim.Native.Nat.{◌-◌, ◌*◌, ◌/◌, ◌^◌, ◌≤◌}
 use Rattle.crc32.proofs.next_eight.Given as goal
 
 -- so far: as many zero bytes of the upper part of the number as tables were used

@@ -1,6 +1,5 @@
 use Rattle.crc32.specs.Crc.{superblock_crc}
 use Rattle.crc32.proofs.Fold.{crc_append}
-use borrow.Author.Rules.{rules}
 use Rattle.crc32.proofs.superblock_checksum.Goals as goal
 
 pub returns : goal.returns

@@ -1,5 +1,4 @@
 use Rattle.names.proofs.Naming.{name_short, name_is, name_not_kind, name_not_number}
-use borrow.Author.Rules.{rules}
 use Rattle.names.proofs.name_read.Goals as goal
 
 pub returns-then-name-lt-PREFIX_BYTES : goal.returns-then-name-lt-PREFIX_BYTES

@@ -1,7 +1,6 @@
-use Prim.Native.Nat.{◌-◌}
 use native.Mathlib.Omega.{arith}
-use lib.ListN.{length, get_or}
-use Rattle.names.proofs.Reading.{ReadTo, a_digit_tested, no_digit_tested, read_start, read_more, read_whole, not_digit, not_leading, not_large, not_empty}
+use lib.ListN.{get_or}
+use Rattle.names.proofs.Reading.{a_digit_tested, no_digit_tested, read_start, read_more, read_whole, not_digit, not_leading, not_large, not_empty}
 use Rattle.names.proofs.number_read.Goals as goal
 
 pub loop-i-init : goal.loop-i-init

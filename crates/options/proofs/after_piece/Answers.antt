@@ -1,6 +1,5 @@
 use Rattle.options.proofs.Laws.{empty_piece, full_piece}
 use mathlib.Core.Path.{sym}
-use borrow.Author.Rules.{rules}
 use Rattle.options.proofs.after_piece.Goals as goal
 
 pub returns-then-piece-eq0 : goal.returns-then-piece-eq0

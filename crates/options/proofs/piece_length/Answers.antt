@@ -1,9 +1,5 @@
-use Prim.Native.Nat.{ℕ, ◌≤◌, ◌<◌, ◌-◌}
-use mathlib.Core.Path.{◌≡◌}
-use lib.ListN.{length, get_or}
 use borrow.Author.Count.{below_more}
 use borrow.Author.Rules.{rules}
-use Rattle.options.specs.Options.{comma}
 use Rattle.options.proofs.piece_length.Goals as goal
 
 pub loop-i-preserved : goal.loop-i-preserved

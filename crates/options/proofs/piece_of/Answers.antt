@@ -1,6 +1,5 @@
 use mathlib.Core.Path.{◌∙◌}
 use Rattle.options.specs.Options.{piece_of}
-use borrow.Author.Rules.{rules}
 use Rattle.options.proofs.piece_of.Goals as goal
 
 pub returns : goal.returns

@@ -1,14 +1,13 @@
-use Prim.Native.Nat.{◌+◌, ◌≤◌, ◌-◌}
-use mathlib.Core.Path.{◌≡◌, ◌∙◌}
+use Prim.Native.Nat.{◌≤◌, ◌-◌}
+use mathlib.Core.Path.{◌∙◌}
 use lib.ListN.{length, drop, length-drop}
 use lib.Seq.{take_all}
 use native.Mathlib.Nat.{le_of_eq}
 use native.Mathlib.Omega.{arith}
 use borrow.Author.Rules.{rules}
 use borrow.Author.Tests.{le-leb, lt-leb}
-use Rattle.options.specs.declared.Options.TheVariants.{Good}
-use Rattle.options.specs.Options.{split, skip_empty, after_pieces, by_default, options_of}
-use Rattle.options.proofs.Laws.{pieces_from, pieces_all, pieces_end, next_piece_lem}
+use Rattle.options.specs.Options.{skip_empty, options_of}
+use Rattle.options.proofs.Laws.{pieces_all, pieces_end, next_piece_lem}
 use Rattle.options.proofs.read_options.Goals as goal
 
 pub returns-then-text-gt-MOST_BYTES : goal.returns-then-text-gt-MOST_BYTES

@@ -1,5 +1,4 @@
 use Rattle.superblock.specs.SuperBlock.{fields_of}
-use borrow.Author.Rules.{rules}
 use Rattle.superblock.proofs.fields_of.Goals as goal
 
 pub returns : goal.returns

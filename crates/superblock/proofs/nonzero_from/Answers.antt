@@ -1,9 +1,5 @@
-use Prim.Native.Nat.{◌-◌}
-use mathlib.Core.Path.{◌≡◌, sym, ◌∙◌}
-use lib.ListN.{length, drop}
+use mathlib.Core.Path.{sym, ◌∙◌}
 use native.Mathlib.Omega.{arith}
-use borrow.Author.Rules.{rules}
-use Rattle.superblock.specs.SuperBlock.{nonzero}
 use Rattle.superblock.proofs.Laws.{nonzero_here, nonzero_next, nonzero_end}
 use Rattle.superblock.proofs.nonzero_from.Goals as goal
 

@@ -1,10 +1,7 @@
 use Prim.Native.Nat.{◌-◌}
-use mathlib.Core.Path.{◌≡◌, sym, ◌∙◌}
+use mathlib.Core.Path.{◌≡◌}
 use lib.ListN.{length, drop}
-use native.Mathlib.Omega.{arith}
-use borrow.Author.Rules.{rules}
 use Rattle.superblock.specs.SuperBlock.{nonzero}
-use Rattle.superblock.proofs.Laws.{nonzero_here, nonzero_next, nonzero_end}
 use Rattle.superblock.proofs.nonzero_from.Given as goal
 
 abbrev pub invariant-loop-i : goal.invariant-loop-i

@@ -1,4 +1,3 @@
-use borrow.Author.Rules.{rules}
 use Rattle.superblock.proofs.read_as.Goals as goal
 
 pub returns-in-Passed : goal.returns-in-Passed

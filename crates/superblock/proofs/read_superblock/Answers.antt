@@ -3,7 +3,6 @@ use mathlib.Core.Bool.{not}
 use borrow.Author.Tests.{eq-eqb, ne_eqb}
 use Rattle.types.specs.Verdicts.{refuse}
 use Rattle.superblock.specs.SuperBlock.{super_check, super_read}
-use borrow.Author.Rules.{rules}
 use Rattle.superblock.proofs.read_superblock.Goals as goal
 
 pub returns-then-b-ne-SUPER_BYTES : goal.returns-then-b-ne-SUPER_BYTES

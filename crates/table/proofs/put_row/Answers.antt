@@ -2,7 +2,6 @@ use mathlib.Core.Path.{sym}
 use Rattle.table.proofs.Laws.{stored}
 use native.Mathlib.Omega.{arith}
 use lib.ListN.{length-set}
-use borrow.Author.Rules.{rules}
 use Rattle.table.proofs.put_row.Goals as goal
 
 pub bounds-t-b-2 : goal.bounds-t-b-2

@@ -1,4 +1,3 @@
-use borrow.Author.Rules.{rules}
 use Rattle.table.proofs.put_store.Goals as goal
 
 pub put_row-requires : goal.put_row-requires

@@ -1,6 +1,5 @@
 use Rattle.table.specs.Rows.{row_at}
 use native.Mathlib.Nat.{add-zero}
-use borrow.Author.Rules.{rules}
 use Rattle.table.proofs.row_at.Goals as goal
 
 pub returns : goal.returns

@@ -1,5 +1,4 @@
 use Rattle.zones.specs.Faults.{first_fault, record_fault, zone_fault}
-use borrow.Author.Rules.{rules}
 use Rattle.zones.proofs.zone_fault.Goals as goal
 
 pub returns : goal.returns

@@ -4,7 +4,6 @@ use mathlib.Core.Path.{ap}
 use borrow.Author.Tests.{le-leb, lt-leb}
 use Rattle.options.specs.declared.reading.Reading.{Reading}
 use Rattle.options.specs.Reading.{byte_taken, part_taken, answered}
-use borrow.Author.Rules.{rules}
 use Rattle.options.proofs.reading.end.Goals as goal
 
 pub returns-then-reading-le-MOST_BYTES : goal.returns-then-reading-le-MOST_BYTES

@@ -1,13 +1,8 @@
-use Prim.Native.Nat.{ℕ, ◌-◌, ◌^◌, ◌≤◌, ◌<◌}
-use mathlib.Core.Path.{◌≡◌, refl, ◌∙◌, ap}
-use mathlib.Core.List.{List, []}
-use lib.ListN.{drop, get_or}
-use lib.Dec.{eqb}
-use native.Mathlib.Omega.{arith}
-use Rattle.options.specs.Options.{comma}
+use Prim.Native.Nat.{◌≤◌}
+use mathlib.Core.Path.{◌≡◌}
+use lib.ListN.{drop}
 use Rattle.options.specs.Reading.{words, having}
-use Rattle.options.proofs.Sets.{count, set_small, byte_small, having-turn}
-use borrow.Author.Rules.{rules}
+use Rattle.options.proofs.Sets.{count}
 use Rattle.options.proofs.reading.having.Given as goal
 
 abbrev pub invariant-loop-w : goal.invariant-loop-w

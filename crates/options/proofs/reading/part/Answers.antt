@@ -1,6 +1,6 @@
-use Prim.Native.Nat.{◌+◌, ◌-◌, ◌≤◌}
-use mathlib.Core.Path.{◌≡◌, ◌∙◌, sym, ap}
-use lib.ListN.{length, drop}
+use Prim.Native.Nat.{◌+◌}
+use mathlib.Core.Path.{◌∙◌, sym, ap}
+use lib.ListN.{drop}
 use native.Mathlib.Omega.{arith}
 use Rattle.options.specs.declared.reading.Reading.{Reading}
 use Rattle.options.specs.Reading.{part_taken}

@@ -1,11 +1,7 @@
-use Prim.Native.Nat.{◌+◌, ◌-◌, ◌≤◌}
-use mathlib.Core.Path.{◌≡◌, ◌∙◌, sym, ap}
+use Prim.Native.Nat.{◌≤◌}
+use mathlib.Core.Path.{◌≡◌}
 use lib.ListN.{length, drop}
-use native.Mathlib.Omega.{arith}
-use Rattle.options.specs.declared.reading.Reading.{Reading}
 use Rattle.options.specs.Reading.{part_taken}
-use Rattle.options.proofs.Parts.{part_more, part_done}
-use borrow.Author.Rules.{rules}
 use Rattle.options.proofs.reading.part.Given as goal
 
 abbrev pub invariant-loop-i : goal.invariant-loop-i

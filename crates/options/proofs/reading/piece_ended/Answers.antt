@@ -1,7 +1,6 @@
 use native.Mathlib.Omega.{arith}
 use borrow.Author.Tests.{eq-eqb, ne_eqb}
 use Rattle.options.specs.Reading.{piece_ended}
-use borrow.Author.Rules.{rules}
 use Rattle.options.proofs.reading.piece_ended.Goals as goal
 
 pub returns-then-bytes-eq0 : goal.returns-then-bytes-eq0

@@ -1,11 +1,11 @@
-use Prim.Native.Nat.{ℕ, ◌/◌, ◌^◌, ◌≤◌}
+use Prim.Native.Nat.{ℕ, ◌/◌, ◌^◌}
 use mathlib.Core.Path.{◌≡◌, refl, ◌∙◌, ap}
 use lib.ListN.{drop}
 use native.Mathlib.Omega.{arith}
 use Rattle.types.specs.declared.ErrorPolicy.TheVariants.{RemountRo}
 use Rattle.options.specs.declared.Piece.TheVariants.{Policy}
 use Rattle.options.specs.Reading.{words, piece_in}
-use Rattle.options.proofs.Sets.{count, chosen_turn, passed_turn}
+use Rattle.options.proofs.Sets.{chosen_turn, passed_turn}
 use borrow.Author.Rules.{rules}
 use Rattle.options.proofs.reading.piece_in.Goals as goal
 

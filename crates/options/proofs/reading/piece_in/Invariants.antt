@@ -1,12 +1,8 @@
-use Prim.Native.Nat.{ℕ, ◌/◌, ◌^◌, ◌≤◌}
-use mathlib.Core.Path.{◌≡◌, refl, ◌∙◌, ap}
+use Prim.Native.Nat.{◌/◌, ◌^◌, ◌≤◌}
+use mathlib.Core.Path.{◌≡◌}
 use lib.ListN.{drop}
-use native.Mathlib.Omega.{arith}
-use Rattle.types.specs.declared.ErrorPolicy.TheVariants.{RemountRo}
-use Rattle.options.specs.declared.Piece.TheVariants.{Policy}
 use Rattle.options.specs.Reading.{words, piece_in}
-use Rattle.options.proofs.Sets.{count, chosen_turn, passed_turn}
-use borrow.Author.Rules.{rules}
+use Rattle.options.proofs.Sets.{count}
 use Rattle.options.proofs.reading.piece_in.Given as goal
 
 abbrev pub invariant-loop-w : goal.invariant-loop-w

@@ -5,7 +5,6 @@ use Rattle.options.specs.Options.{comma}
 use borrow.Author.Tests.{eq-eqb, ne_eqb}
 use Rattle.options.specs.Reading.{byte_taken}
 use Rattle.options.proofs.Sets.{all_words_lem}
-use borrow.Author.Rules.{rules}
 use Rattle.options.proofs.reading.take_byte.Goals as goal
 
 pub returns-then-b-eq44 : goal.returns-then-b-eq44
