@@ -1,7 +1,7 @@
 -- What a mount in pieces comes to, wherever they are cut; and that a refusal stays.
 -- Assumes nothing.
 use Prim.Native.Nat.{ℕ}
-use mathlib.Core.Path.{◌≡◌, refl, sym, ap, ◌∙◌}
+use mathlib.Core.Path.{◌≡◌, sym, ap, ◌∙◌}
 use mathlib.Core.Bool.{true}
 use mathlib.Core.List.{List}
 use Rattle.types.specs.Blocks.{block_sectors}
@@ -22,7 +22,7 @@ use Rattle.pieces.specs.Pieces.{Fed, Ended, begin_outcome, possible_pieces, rule
 use Rattle.first_fault.specs.Claims.{joined, started, in_pieces, PiecesCome, StaysRefused}
 use Rattle.first_fault.proofs.FirstFault.{first_fault_lem}
 use Rattle.first_fault.proofs.RefusedToo.{refused_answer}
-use Rattle.first_fault.proofs.Begun.{opening, found, rule, after, pieces_fed, ended}
+use Rattle.first_fault.proofs.Begun.{found, rule, after, pieces_fed, ended}
 
 pub pieces_come : (block : ℕ) (superblock options : List ℕ) (open_limit active_limit : ℕ) (cnv seq : List ℕ) (bs : List (List ℕ))
     → (begin_outcome block superblock options open_limit active_limit).answer ≡ verdict.Passed

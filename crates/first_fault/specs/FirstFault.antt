@@ -1,7 +1,7 @@
 -- 02, K4: "refused in pieces too, with its first fault in byte order, a missing or extra byte (28) at its place, a zone's fault at its last byte, and the
 -- same rows whatever the cuts". What a report's bytes come to that have arrived so far, said over its list of zones, with tables of so many rows. The law
 -- `first_fault_lem` shows that the bytes taken one after the other come to exactly this.
-use Rattle.std.specs.Prelude.{ℕ, ◌+◌, ◌-◌, ◌*◌, ◌/◌, min, List, [], ◌∷◌, ◌++◌, Bool, true, false, cond, not, ◌&&◌, ◌||◌, length, take, drop, eqb, leb, ltb}
+use Rattle.std.specs.Prelude.{ℕ, ◌+◌, ◌-◌, ◌*◌, ◌/◌, min, List, [], ◌∷◌, ◌++◌, Bool, false, cond, not, ◌&&◌, ◌||◌, length, take, drop, eqb, leb, ltb}
 use Rattle.types.specs.Verdicts.{refuse, and_then}
 use Rattle.types.specs.declared.Refusal.TheVariants.{BadReport, BadZone, TooFewRows}
 use Rattle.types.specs.declared.Verdict.{Verdict}

@@ -1,8 +1,8 @@
 -- What has been taken of a report stays bounded: no sum of its numbers wraps, however the report goes on.
 -- Assumes nothing.
-use Prim.Native.Nat.{ℕ, ◌+◌, ◌≤◌}
+use Prim.Native.Nat.{ℕ, ◌≤◌}
 use native.Mathlib.Omega.{arith}
-use mathlib.Core.Path.{◌≡◌, refl, sym, subst}
+use mathlib.Core.Path.{◌≡◌, refl}
 use mathlib.Core.Bool.{Bool, true, false, cond, ◌&&◌}
 use mathlib.Core.List.{List}
 use lib.Dec.{leb}
@@ -20,12 +20,12 @@ use Rattle.zones.specs.declared.Zone.{Zone}
 use Rattle.zones.specs.Zone.{good_zone}
 use Rattle.zones.proofs.Laws.{zone-told, zone_bounded}
 use Rattle.files.specs.Files.{seq_row}
-use Rattle.files.specs.Walk.{is_seq_file, stepped}
+use Rattle.files.specs.Walk.{is_seq_file}
 use Rattle.files.proofs.Walks.{step_number, step_seqs, bounded_begun, bounded_step}
 use Rattle.report.specs.Report.{zone_count, capacity_given, good_fields}
 use Rattle.intake.specs.declared.Rule.{Rule}
 use Rattle.intake.specs.declared.Intake.{Intake}
-use Rattle.intake.specs.Steps.{Taking, nothing_taken, refused_with, header_taken, no_row, active_file, filed, good_taken, zone_taken}
+use Rattle.intake.specs.Steps.{Taking, nothing_taken, refused_with, header_taken, no_row, filed, good_taken, zone_taken}
 use Rattle.intake.specs.Facts.{BoundedIntake, Ready}
 
 pub nothing_bounded : BoundedIntake nothing_taken

@@ -15,7 +15,7 @@ use Rattle.types.specs.declared.Verdict.{Verdict}
 use Rattle.types.specs.declared.Verdict.TheVariants as verdict
 use Rattle.types.specs.declared.Mount.{Mount}
 use Rattle.types.specs.declared.MountAnswer.{MountAnswer}
-use Rattle.types.specs.declared.MountAnswer.TheVariants.{Refused, Mounted}
+use Rattle.types.specs.declared.MountAnswer.TheVariants.{Mounted}
 use Rattle.types.proofs.Tests.{or_left, or_right}
 use Rattle.types.proofs.VerdictLaws.{check_passed, check_passes, then_passed, then_passes}
 use Rattle.table.specs.Rows.{rows_lent}

@@ -1,7 +1,5 @@
 use mathlib.Core.Path.{◌∙◌, sym}
-use borrow.Author.Tests.{not-true, not-false}
 use Rattle.checks.proofs.Laws.{file_counts, file_none, file_found}
-use borrow.Author.Rules.{rules}
 use Rattle.calls.proofs.call.Goals as goal
 
 pub returns-then-not-counts_fit : goal.returns-then-not-counts_fit

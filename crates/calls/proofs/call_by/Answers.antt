@@ -1,6 +1,5 @@
 use mathlib.Core.Path.{◌∙◌, sym}
 use Rattle.calls.specs.Calls.{effect_by}
-use borrow.Author.Rules.{rules}
 use Rattle.calls.proofs.call_by.Goals as goal
 
 pub returns-then-is_kind : goal.returns-then-is_kind

@@ -2,7 +2,6 @@ use mathlib.Core.Path.{◌∙◌, ap}
 use Rattle.checks.specs.Facts.{counted_file}
 use Rattle.checks.proofs.Laws.{slot_counted}
 use Rattle.calls.specs.Calls.{on_file}
-use borrow.Author.Rules.{rules}
 use Rattle.calls.proofs.call_on.Goals as goal
 
 pub on_file-requires : goal.on_file-requires

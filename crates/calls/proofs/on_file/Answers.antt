@@ -1,7 +1,6 @@
 use mathlib.Core.Path.{sym, subst}
 use Rattle.decision.specs.Facts.{Settles}
 use Rattle.calls.proofs.Laws.{row_settles}
-use borrow.Author.Rules.{rules}
 use Rattle.calls.proofs.on_file.Goals as goal
 
 pub on_row-requires : goal.on_row-requires

@@ -2,7 +2,6 @@ use mathlib.Core.Path.{◌∙◌, sym, subst}
 use Rattle.types.specs.Verdicts.{answer_after}
 use Rattle.decision.specs.Facts.{Settles}
 use Rattle.decision.proofs.Laws.{dispatch_settles}
-use borrow.Author.Rules.{rules}
 use Rattle.calls.proofs.on_row.Goals as goal
 
 pub within_limits-requires : goal.within_limits-requires

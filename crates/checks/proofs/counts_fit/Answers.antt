@@ -2,7 +2,6 @@ use mathlib.Core.Path.{◌≡◌}
 use mathlib.Core.Bool.{true}
 use Rattle.checks.specs.Checks.{counts_fit}
 use Rattle.checks.proofs.Laws.{counts_good, counts_room}
-use borrow.Author.Rules.{rules}
 use Rattle.checks.proofs.counts_fit.Goals as goal
 
 pub returns : goal.returns

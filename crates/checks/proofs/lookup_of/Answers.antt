@@ -1,7 +1,6 @@
 use Rattle.checks.specs.Checks.{lookup_of}
 use Rattle.types.specs.declared.FileKind.TheVariants.{Conventional, Sequential}
 use Rattle.checks.proofs.Laws.{counts-lent}
-use borrow.Author.Rules.{rules}
 use Rattle.checks.proofs.lookup_of.Goals as goal
 
 pub row_in-requires : goal.row_in-requires

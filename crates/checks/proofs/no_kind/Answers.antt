@@ -1,5 +1,4 @@
 use mathlib.Core.Path.{◌∙◌, sym}
-use borrow.Author.Rules.{rules}
 use Rattle.checks.proofs.no_kind.Goals as goal
 
 pub returns-then-counts_fit : goal.returns-then-counts_fit

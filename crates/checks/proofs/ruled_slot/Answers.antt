@@ -1,6 +1,5 @@
 use mathlib.Core.Path.{◌∙◌, sym}
 use Rattle.checks.proofs.Laws.{sound_row_lem, sound_openable}
-use borrow.Author.Rules.{rules}
 use Rattle.checks.proofs.ruled_slot.Goals as goal
 
 pub returns-in_default : goal.returns-in_default

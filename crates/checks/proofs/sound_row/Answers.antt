@@ -1,5 +1,4 @@
 use Rattle.checks.specs.Checks.{sound_row}
-use borrow.Author.Rules.{rules}
 use Rattle.checks.proofs.sound_row.Goals as goal
 
 pub returns : goal.returns

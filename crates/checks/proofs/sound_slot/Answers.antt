@@ -1,7 +1,6 @@
 use mathlib.Core.Path.{◌∙◌, ap}
 use Rattle.checks.specs.Facts.{counted_file}
 use Rattle.checks.proofs.Laws.{slot_counted}
-use borrow.Author.Rules.{rules}
 use Rattle.checks.proofs.sound_slot.Goals as goal
 
 pub returns : goal.returns

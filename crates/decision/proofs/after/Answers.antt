@@ -1,5 +1,4 @@
 use Rattle.types.specs.Verdicts.{answer_after}
-use borrow.Author.Rules.{rules}
 use Rattle.decision.proofs.after.Goals as goal
 
 pub returns-in-Passed : goal.returns-in-Passed

@@ -1,4 +1,3 @@
-use borrow.Author.Rules.{rules}
 use Rattle.decision.proofs.answer_on.Goals as goal
 
 pub returns-in-Read : goal.returns-in-Read

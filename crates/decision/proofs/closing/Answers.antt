@@ -1,5 +1,4 @@
 use Rattle.decision.specs.Decision.{at_once}
-use borrow.Author.Rules.{rules}
 use Rattle.decision.proofs.closing.Goals as goal
 
 pub returns-then-explicit-row : goal.returns-then-explicit-row

@@ -1,5 +1,4 @@
 use Rattle.decision.specs.Decision.{open_row}
-use borrow.Author.Rules.{rules}
 use Rattle.decision.proofs.open_row.Goals as goal
 
 pub returns-in-Conventional : goal.returns-in-Conventional

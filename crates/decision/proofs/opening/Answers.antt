@@ -1,5 +1,4 @@
 use Rattle.decision.specs.Decision.{at_once}
-use borrow.Author.Rules.{rules}
 use Rattle.decision.proofs.opening.Goals as goal
 
 pub returns-then-explicit-is_open : goal.returns-then-explicit-is_open

@@ -1,5 +1,4 @@
 use Rattle.decision.specs.Decision.{read_checks}
-use borrow.Author.Rules.{rules}
 use Rattle.decision.proofs.read_checks.Goals as goal
 
 pub returns : goal.returns

@@ -3,7 +3,6 @@ use mathlib.Core.Path.{◌∙◌, sym}
 use Rattle.types.specs.Verdicts.{answer_after}
 use Rattle.decision.specs.Decision.{read_row}
 use Rattle.decision.proofs.Laws.{read_checked}
-use borrow.Author.Rules.{rules}
 use Rattle.decision.proofs.read_row.Goals as goal
 
 pub transfer-requires : goal.transfer-requires

@@ -1,6 +1,5 @@
 use borrow.Author.Tests.{eq-eqb, ne_eqb}
 use Rattle.decision.specs.Decision.{at_once}
-use borrow.Author.Rules.{rules}
 use Rattle.decision.proofs.resize.Goals as goal
 
 pub returns-then-target-row : goal.returns-then-target-row

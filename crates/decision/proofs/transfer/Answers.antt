@@ -1,6 +1,5 @@
 use Rattle.decision.specs.Decision.{at_once}
 use borrow.Author.Tests.{eq-eqb, ne_eqb}
-use borrow.Author.Rules.{rules}
 use Rattle.decision.proofs.transfer.Goals as goal
 
 pub returns-then-count-eq0 : goal.returns-then-count-eq0

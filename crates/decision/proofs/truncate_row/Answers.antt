@@ -1,7 +1,6 @@
 use mathlib.Core.Path.{◌∙◌, sym}
 use Rattle.types.specs.Verdicts.{answer_after}
 use Rattle.decision.specs.Decision.{truncate_row}
-use borrow.Author.Rules.{rules}
 use Rattle.decision.proofs.truncate_row.Goals as goal
 
 pub returns-in-Passed : goal.returns-in-Passed

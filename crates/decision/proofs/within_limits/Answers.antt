@@ -2,7 +2,6 @@ use mathlib.Core.Path.{subst}
 use Rattle.types.specs.declared.Answer.{Answer}
 use Rattle.decision.specs.Facts.{Settles}
 use Rattle.decision.specs.Decision.{limited}
-use borrow.Author.Rules.{rules}
 use Rattle.decision.proofs.within_limits.Goals as goal
 
 pub limits_of-requires : goal.limits_of-requires

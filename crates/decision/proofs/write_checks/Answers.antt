@@ -1,5 +1,4 @@
 use Rattle.decision.specs.Decision.{write_checks}
-use borrow.Author.Rules.{rules}
 use Rattle.decision.proofs.write_checks.Goals as goal
 
 pub returns : goal.returns

@@ -3,7 +3,6 @@ use mathlib.Core.Path.{◌∙◌, sym}
 use Rattle.types.specs.Verdicts.{answer_after}
 use Rattle.decision.specs.Decision.{write_row}
 use Rattle.decision.proofs.Laws.{write_checked}
-use borrow.Author.Rules.{rules}
 use Rattle.decision.proofs.write_row.Goals as goal
 
 pub transfer-requires : goal.transfer-requires

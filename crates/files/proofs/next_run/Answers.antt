@@ -1,5 +1,4 @@
 use Rattle.files.specs.Walk.{next_run}
-use borrow.Author.Rules.{rules}
 use Rattle.files.proofs.next_run.Goals as goal
 
 pub returns-then-longer : goal.returns-then-longer

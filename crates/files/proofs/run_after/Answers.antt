@@ -1,4 +1,3 @@
-use borrow.Author.Rules.{rules}
 use Rattle.files.proofs.run_after.Goals as goal
 
 pub returns-then-at_zone_0 : goal.returns-then-at_zone_0

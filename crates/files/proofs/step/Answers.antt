@@ -1,7 +1,6 @@
 use Rattle.files.proofs.Walks.{flag_small}
 use Rattle.files.specs.Walk.{stepped}
 use native.Mathlib.Omega.{arith}
-use borrow.Author.Rules.{rules}
 use Rattle.files.proofs.step.Goals as goal
 
 pub overflow_add-cnvs : goal.overflow_add-cnvs

@@ -1,10 +1,8 @@
 use mathlib.Core.Path.{◌≡◌, ◌∙◌, sym}
 use mathlib.Core.Bool.{false}
 use lib.ListN.{length}
-use borrow.Author.Tests.{not-true, not-false}
 use Rattle.checks.specs.Checks.{counts_fit}
 use Rattle.held.specs.Held.{pending_of}
-use borrow.Author.Rules.{rules}
 use Rattle.held.proofs.check_pending.Goals as goal
 
 pub returns-then-not-counts_fit : goal.returns-then-not-counts_fit

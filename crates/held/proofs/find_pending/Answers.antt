@@ -1,5 +1,4 @@
 use Rattle.held.proofs.Laws.{pending_tells}
-use borrow.Author.Rules.{rules}
 use Rattle.held.proofs.find_pending.Goals as goal
 
 pub returns : goal.returns

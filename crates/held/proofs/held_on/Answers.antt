@@ -1,5 +1,4 @@
 use mathlib.Core.Path.{◌∙◌, sym}
-use borrow.Author.Rules.{rules}
 use Rattle.held.proofs.held_on.Goals as goal
 
 pub is_issuable-requires : goal.is_issuable-requires

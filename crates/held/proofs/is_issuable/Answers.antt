@@ -2,7 +2,6 @@ use mathlib.Core.Path.{◌≡◌, subst}
 use Rattle.types.specs.declared.CommandKind.{CommandKind}
 use Rattle.held.specs.Held.{issuable}
 use Rattle.held.proofs.Issuable.{again_by, by_kind}
-use borrow.Author.Rules.{rules}
 use Rattle.held.proofs.is_issuable.Goals as goal
 
 pub open_row-again-requires : goal.open_row-again-requires

@@ -4,7 +4,6 @@ use Rattle.checks.specs.Facts.{counted_file}
 use Rattle.checks.proofs.Laws.{slot_counted}
 use Rattle.held.specs.Held.{held_on, hold_of, pending_by}
 use mathlib.Core.Path.{◌∙◌, sym}
-use borrow.Author.Rules.{rules}
 use Rattle.held.proofs.slot_pending.Goals as goal
 
 pub held_on-requires : goal.held_on-requires

@@ -1,8 +1,6 @@
 use Rattle.inspect.specs.Find.{found_file}
 use mathlib.Core.Path.{◌∙◌, sym, ap}
-use borrow.Author.Tests.{not-true, not-false}
 use Rattle.inspect.proofs.Finding.{find_unnamed, find_none, find_file}
-use borrow.Author.Rules.{rules}
 use Rattle.inspect.proofs.find.Goals as goal
 
 pub returns-then-not-counts_fit : goal.returns-then-not-counts_fit

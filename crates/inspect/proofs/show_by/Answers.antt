@@ -1,6 +1,5 @@
 use mathlib.Core.Path.{◌∙◌, sym}
 use Rattle.inspect.specs.Show.{show_by}
-use borrow.Author.Rules.{rules}
 use Rattle.inspect.proofs.show_by.Goals as goal
 
 pub returns-then-is_kind : goal.returns-then-is_kind

@@ -3,7 +3,6 @@ use Rattle.files.proofs.Walks.{flag_small, bounded_step}
 use native.Mathlib.Omega.{arith}
 use mathlib.Core.Path.{ap}
 use Rattle.files.specs.declared.Walk.{Walk}
-use borrow.Author.Rules.{rules}
 use Rattle.intake.proofs.file_zone.Goals as goal
 
 pub put_run-requires : goal.put_run-requires

@@ -1,5 +1,4 @@
 use Rattle.intake.specs.Steps.{no_row}
-use borrow.Author.Rules.{rules}
 use Rattle.intake.proofs.no_row.Goals as goal
 
 pub returns : goal.returns

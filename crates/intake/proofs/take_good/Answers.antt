@@ -1,6 +1,5 @@
 use Rattle.intake.specs.Steps.{good_taken}
 use mathlib.Core.Path.{◌∙◌, sym}
-use borrow.Author.Rules.{rules}
 use Rattle.intake.proofs.take_good.Goals as goal
 
 pub returns-then-short : goal.returns-then-short

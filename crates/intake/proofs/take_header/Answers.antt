@@ -1,6 +1,5 @@
 use Rattle.intake.specs.Steps.{header_taken}
 use mathlib.Core.Path.{◌∙◌, sym}
-use borrow.Author.Rules.{rules}
 use Rattle.intake.proofs.take_header.Goals as goal
 
 pub returns-then-good_fields : goal.returns-then-good_fields

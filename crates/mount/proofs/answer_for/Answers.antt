@@ -1,5 +1,4 @@
 use Rattle.mount.specs.Mount.{answer_for}
-use borrow.Author.Rules.{rules}
 use Rattle.mount.proofs.answer_for.Goals as goal
 
 pub returns-in-Passed : goal.returns-in-Passed

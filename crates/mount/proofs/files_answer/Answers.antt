@@ -2,7 +2,6 @@ use Rattle.types.proofs.Blocks.{block_positive}
 use Rattle.files.proofs.Walks.{flag_small}
 use Rattle.mount.proofs.Mounted.{files_answer}
 use native.Mathlib.Omega.{arith}
-use borrow.Author.Rules.{rules}
 use Rattle.mount.proofs.files_answer.Goals as goal
 
 pub check_report-read-requires : goal.check_report-read-requires

@@ -1,5 +1,4 @@
 use Rattle.mount.specs.Mount.{table_after}
-use borrow.Author.Rules.{rules}
 use Rattle.mount.proofs.fill_tables.Goals as goal
 
 pub write_files-requires : goal.write_files-requires

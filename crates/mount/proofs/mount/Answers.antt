@@ -1,7 +1,6 @@
 use Rattle.mount.proofs.Mounted.{answer_told, answer_fits, answer_few, outcome_is}
 use mathlib.Core.Path.{◌∙◌, sym}
 use native.Mathlib.Omega.{arith}
-use borrow.Author.Rules.{rules}
 use Rattle.mount.proofs.mount.Goals as goal
 
 pub fill_tables-requires : goal.fill_tables-requires

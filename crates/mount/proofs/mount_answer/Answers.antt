@@ -2,7 +2,6 @@ use Rattle.mount.specs.Mount.{mount_answer_of, mount_check, answer_for}
 use Rattle.types.specs.Verdicts.{and_then}
 use Rattle.mount.proofs.Mounted.{opening_block}
 use mathlib.Core.Path.{◌∙◌, sym}
-use borrow.Author.Rules.{rules}
 use Rattle.mount.proofs.mount_answer.Goals as goal
 
 pub files_answer-requires : goal.files_answer-requires

@@ -1,5 +1,4 @@
 use Rattle.mount.specs.Mount.{mount_of}
-use borrow.Author.Rules.{rules}
 use Rattle.mount.proofs.mount_of.Goals as goal
 
 pub count_active-active-requires : goal.count_active-active-requires

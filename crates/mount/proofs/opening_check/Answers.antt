@@ -1,5 +1,4 @@
 use Rattle.mount.specs.Mount.{opening_check}
-use borrow.Author.Rules.{rules}
 use Rattle.mount.proofs.opening_check.Goals as goal
 
 pub returns : goal.returns

@@ -1,10 +1,7 @@
-use Rattle.mount.proofs.Filling.{Writing, writing_begun, writing_zone, writing_cnv, writing_seq, writing_step, writing_last, written_cnv, written_seq}
+use Rattle.mount.proofs.Filling.{Writing}
 use Rattle.report.specs.Report.{zone_count}
-use Rattle.files.proofs.Walks.{step_number}
 use Prim.Native.Nat.{◌-◌}
-use mathlib.Core.Path.{◌≡◌, ◌∙◌, ap}
-use native.Mathlib.Omega.{arith}
-use borrow.Author.Rules.{rules}
+use mathlib.Core.Path.{◌≡◌}
 use Rattle.mount.proofs.write_files.Given as goal
 
 abbrev pub invariant-loop-walk : goal.invariant-loop-walk

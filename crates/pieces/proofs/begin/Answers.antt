@@ -1,5 +1,4 @@
 use Rattle.pieces.specs.Pieces.{begin_outcome}
-use borrow.Author.Rules.{rules}
 use Rattle.pieces.proofs.begin.Goals as goal
 
 pub returns : goal.returns

@@ -1,5 +1,4 @@
 use Rattle.pieces.specs.Pieces.{begun_as}
-use borrow.Author.Rules.{rules}
 use Rattle.pieces.proofs.begun_as.Goals as goal
 
 pub returns-in-Passed : goal.returns-in-Passed

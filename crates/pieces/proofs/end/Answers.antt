@@ -1,7 +1,6 @@
 use Rattle.pieces.specs.Pieces.{end_outcome}
 use Rattle.pieces.proofs.Possible.{possible-told}
 use mathlib.Core.Path.{sym, ◌∙◌}
-use borrow.Author.Rules.{rules}
 use Rattle.pieces.proofs.end.Goals as goal
 
 pub end_answer-answer-requires : goal.end_answer-answer-requires

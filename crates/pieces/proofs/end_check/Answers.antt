@@ -1,5 +1,4 @@
 use Rattle.pieces.specs.Pieces.{end_check}
-use borrow.Author.Rules.{rules}
 use Rattle.pieces.proofs.end_check.Goals as goal
 
 pub returns : goal.returns

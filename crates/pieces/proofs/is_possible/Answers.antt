@@ -1,5 +1,4 @@
 use Rattle.pieces.specs.Pieces.{possible_pieces}
-use borrow.Author.Rules.{rules}
 use Rattle.pieces.proofs.is_possible.Goals as goal
 
 pub returns : goal.returns

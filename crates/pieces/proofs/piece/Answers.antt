@@ -4,7 +4,6 @@ use Rattle.pieces.proofs.Possible.{possible-told}
 use Rattle.types.proofs.Blocks.{block_positive}
 use mathlib.Core.Path.{sym, ap, ◌∙◌}
 use native.Mathlib.Omega.{arith}
-use borrow.Author.Rules.{rules}
 use Rattle.pieces.proofs.piece.Goals as goal
 
 pub receive-received-requires : goal.receive-received-requires

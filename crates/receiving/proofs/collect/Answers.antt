@@ -1,7 +1,6 @@
 use Rattle.receiving.proofs.Adding.{add_refused, add-extra}
 use Rattle.receiving.specs.Bytes.{Receiving}
 use mathlib.Core.Path.{sym, ◌∙◌}
-use borrow.Author.Rules.{rules}
 use Rattle.receiving.proofs.collect.Goals as goal
 
 pub returns-in-Refused : goal.returns-in-Refused

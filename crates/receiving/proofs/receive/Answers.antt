@@ -1,10 +1,9 @@
 use native.Mathlib.Omega.{arith}
-use mathlib.Core.Path.{sym, subst, ◌∙◌}
+use mathlib.Core.Path.{sym, subst}
 use Rattle.receiving.specs.Bytes.{Receiving}
 use Rattle.receiving.specs.Facts.{BoundedReceived}
 use Rattle.receiving.proofs.Bounds.{wholly_bounded}
 use Rattle.receiving.proofs.Receiving.{first_bounded, receive_first, receive_last}
-use borrow.Author.Rules.{rules}
 use Rattle.receiving.proofs.receive.Goals as goal
 
 pub take_whole-whole-requires : goal.take_whole-whole-requires

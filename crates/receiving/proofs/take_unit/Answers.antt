@@ -4,7 +4,6 @@ use Rattle.receiving.proofs.Units.{not-complete, goes_on_in}
 use Rattle.receiving.proofs.Zones.{passing_one}
 use borrow.Author.Tests.{eq-eqb, ne_eqb}
 use native.Mathlib.Omega.{arith}
-use borrow.Author.Rules.{rules}
 use Rattle.receiving.proofs.take_unit.Goals as goal
 
 pub returns-then-intake-eq0 : goal.returns-then-intake-eq0

@@ -4,9 +4,8 @@ use mathlib.Core.Path.{sym, ap, ◌∙◌}
 use mathlib.Core.Bool.{Bool, ◌&&◌}
 use lib.Dec.{leb}
 use lib.ListN.{length}
-use borrow.Author.Rules.{rules}
 use Rattle.zones.specs.Zone.{zone_bytes}
-use Rattle.receiving.proofs.Zones.{Passing, passing_begun, passing_fits, passing_ready, passing_step, passing_done, passing_counted, passing_moved}
+use Rattle.receiving.proofs.Zones.{passing_begun, passing_fits, passing_ready, passing_step, passing_done, passing_counted, passing_moved}
 use Rattle.receiving.proofs.take_whole.Goals as goal
 
 pub loop-at-init : goal.loop-at-init

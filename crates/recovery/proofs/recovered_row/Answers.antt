@@ -1,6 +1,5 @@
 use Rattle.recovery.specs.Recovery.{recovered_row}
 use Rattle.recovery.proofs.Laws.{fixed_healthy}
-use borrow.Author.Rules.{rules}
 use Rattle.recovery.proofs.recovered_row.Goals as goal
 
 pub ruled_size-size-requires : goal.ruled_size-size-requires

@@ -1,12 +1,9 @@
 use Rattle.files.proofs.Walks.{step_number}
 use Rattle.zones.proofs.Laws.{zone_bounded}
 use Rattle.zones.proofs.Faults.{zone_faultless, tested}
-use mathlib.Core.Path.{◌≡◌, ap}
-use Rattle.report.proofs.Pass.{Checking, checking_begun, checking_done, checking_bad, checking_step}
-use Rattle.report.specs.Report.{zone_count}
-use Prim.Native.Nat.{◌-◌}
+use mathlib.Core.Path.{ap}
+use Rattle.report.proofs.Pass.{checking_begun, checking_done, checking_bad, checking_step}
 use native.Mathlib.Omega.{arith}
-use borrow.Author.Rules.{rules}
 use Rattle.report.proofs.check_zones.Goals as goal
 
 pub loop-walk-init : goal.loop-walk-init

@@ -1,12 +1,7 @@
-use Rattle.files.proofs.Walks.{step_number}
-use Rattle.zones.proofs.Laws.{zone_bounded}
-use Rattle.zones.proofs.Faults.{zone_faultless, tested}
-use mathlib.Core.Path.{◌≡◌, ap}
-use Rattle.report.proofs.Pass.{Checking, checking_begun, checking_done, checking_bad, checking_step}
+use mathlib.Core.Path.{◌≡◌}
+use Rattle.report.proofs.Pass.{Checking}
 use Rattle.report.specs.Report.{zone_count}
 use Prim.Native.Nat.{◌-◌}
-use native.Mathlib.Omega.{arith}
-use borrow.Author.Rules.{rules}
 use Rattle.report.proofs.check_zones.Given as goal
 
 abbrev pub invariant-loop-walk : goal.invariant-loop-walk

@@ -2,7 +2,6 @@ use lib.ListN.{length}
 use native.Mathlib.Omega.{arith}
 use borrow.Author.Tests.{le-leb, lt-leb}
 use Rattle.report.specs.Report.{good_header, header_bytes}
-use borrow.Author.Rules.{rules}
 use Rattle.report.proofs.good_header.Goals as goal
 
 pub returns-then-b-ge-HEADER_BYTES : goal.returns-then-b-ge-HEADER_BYTES

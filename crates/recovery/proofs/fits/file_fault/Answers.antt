@@ -1,5 +1,4 @@
 use Rattle.zones.specs.Faults.{first_fault}
-use borrow.Author.Rules.{rules}
 use Rattle.recovery.proofs.fits.file_fault.Goals as goal
 
 pub returns : goal.returns

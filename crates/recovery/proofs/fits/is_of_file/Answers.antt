@@ -1,4 +1,3 @@
-use borrow.Author.Rules.{rules}
 use Rattle.recovery.proofs.fits.is_of_file.Goals as goal
 
 pub returns-in-Conventional : goal.returns-in-Conventional

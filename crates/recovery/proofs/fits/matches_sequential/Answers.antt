@@ -1,5 +1,4 @@
 use Rattle.recovery.specs.Fits.{matches_sequential}
-use borrow.Author.Rules.{rules}
 use Rattle.recovery.proofs.fits.matches_sequential.Goals as goal
 
 pub returns : goal.returns

@@ -5,7 +5,6 @@ use Rattle.zones.specs.Faults.{record_fault, is_faultless}
 use Rattle.zones.proofs.Laws.{record_bounded}
 use Rattle.zones.proofs.Faults.{record_faultless, tested}
 use Rattle.recovery.proofs.Laws.{own_fault, own_passed, faultless_fitting}
-use borrow.Author.Rules.{rules}
 use Rattle.recovery.proofs.fits.misfit.Goals as goal
 
 pub record_fault-own-requires : goal.record_fault-own-requires

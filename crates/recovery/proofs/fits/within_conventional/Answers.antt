@@ -1,5 +1,4 @@
 use Rattle.recovery.specs.Fits.{within_conventional}
-use borrow.Author.Rules.{rules}
 use Rattle.recovery.proofs.fits.within_conventional.Goals as goal
 
 pub returns : goal.returns
