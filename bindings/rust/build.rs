@@ -1,4 +1,4 @@
-//! Links the archive that `rt lib` writes in the crate `capi`.
+//! Links the archive that `rt lib --cpu x86-64` writes in the crate `capi`.
 
 use std::env;
 use std::path::{Path, PathBuf};
@@ -16,7 +16,7 @@ fn main() {
     println!("cargo::rerun-if-changed={}", archive.display());
     if !archive.is_file() {
         println!(
-            "cargo::error=there is no {}: run `rt lib` in the folder crates/capi of the repository of the library, \
+            "cargo::error=there is no {}: run `rt lib --cpu x86-64` in the folder crates/capi of the repository of the library, \
              or set {FOLDER} to the folder that has libcapi.a",
             archive.display()
         );

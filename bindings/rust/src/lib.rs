@@ -106,8 +106,8 @@
 //!
 //! Nothing here needs the standard library or a heap. Mounting, beginning a mount in pieces, making or reading a super block, and a checksum
 //! take some 10 kB of stack, of which 8 KiB are the checksum's tables; a piece takes some 3 kB, and everything else less than 1 kB. The archive
-//! that this crate links is made by `rt lib` in the crate `capi`; the environment variable `ZONEFS_LIB_DIR` names its folder where that isn't
-//! `crates/capi/out` of the repository.
+//! that this crate links is made by `rt lib --cpu x86-64` in the crate `capi`; the environment variable `ZONEFS_LIB_DIR` names its folder where
+//! that isn't `crates/capi/out` of the repository.
 //!
 //! The archive's functions are proved to answer as the scope paper says, for every input. The few lines of this crate around
 //! them are ordinary Rust, and tested.
