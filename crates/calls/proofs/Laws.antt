@@ -42,6 +42,7 @@ use Rattle.decision.specs.Facts.{Settles}
 use Rattle.decision.proofs.Laws.{settled-after, dispatch_settles, limited_issued, limited-passes, limited_settles}
 use Rattle.calls.specs.Calls.{on_row, mount_after, store_at_once, settled, on_file, effect_of}
 use Rattle.calls.specs.Facts.{Admitted}
+use Rattle.calls.proofs.Fits.{settled_fits}
 
 -- A CALL THAT COUNTS NOTHING leaves the row's opens as they were.
 pub uncounting : (k : FileKind) (x : Call) (r : Row) → counts k x ≡ false → called k x r ≡ r
@@ -153,20 +154,8 @@ module _ (m : Mount) (cnv seq : List ℕ) (k : FileKind) (i : ℕ) (x : Call) wh
   effect_uncounted e = call_cases (λ d. d.outcome.mount ≡ m) (λ r w. settled_uncounted r (on_row m k r x) e) (λ y f. refl)
 
   -- THE ROW that is stored is its file's, which is lent.
-  at_once_fits : (r : Row) → Reached m cnv seq k i r → StoreFits cnv seq (store_at_once k i r x)
-  at_once_fits r w = by (counts k x)
-    where
-      by : (t : Bool) → StoreFits cnv seq (cond t (store.Put k i (called k x r)) store.Nothing)
-      by true = reached_lent m cnv seq k i r w
-      by false = tt
-
-  settled_fits : (r : Row) (a : Answer) → Reached m cnv seq k i r → StoreFits cnv seq (settled m k i r x a).store
-  settled_fits r (Refused y) w = tt
-  settled_fits r (Done count) w = at_once_fits r w
-  settled_fits r (Issue c) w = reached_lent m cnv seq k i r w
-
   pub effect_fits : StoreFits cnv seq (effect_of m cnv seq k i x).store
-  effect_fits = call_cases (λ d. StoreFits cnv seq d.store) (λ r w. settled_fits r (on_row m k r x) w) (λ y e. tt)
+  effect_fits = call_cases (λ d. StoreFits cnv seq d.store) (λ r w. settled_fits m cnv seq k i x r (on_row m k r x) w) (λ y e. tt)
 
   -- THE ACCOUNT stays true.
   abbrev Stays : Effect → Type 0
