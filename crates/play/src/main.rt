@@ -45,12 +45,12 @@ pub enum Failure {
 }
 
 // Reads once, behind the first `have` bytes, which stay as they are.
-fn read_once<R: Read>(reader: &mut R, b: &mut [u8], have: usize) -> io::Result<Input>
+fn read_once<R: Read>(reader: &mut R, b: &mut [u8], have: usize) -> Result<Input, Failure>
     requires { have ≤ length b.old }
     ensures have_le_have { IfOk result (λ input. (have ≤ input.have) × (input.have ≤ length b.old) × (input.ended ≡ false → have < input.have)) }
     ensures b_unchanged { take have b.new ≡ take have b.old }
 {
-    let n = reader.read(&mut b[have..])?;
+    let n = reader.read(&mut b[have..]).map_err(Failure::Reading)?;
     Ok(Input {
         have: have + n,
         ended: n == 0,
@@ -59,7 +59,7 @@ fn read_once<R: Read>(reader: &mut R, b: &mut [u8], have: usize) -> io::Result<I
 
 // Reads until `b` is full or the input has ended, and nothing where it had; the first `have` bytes stay as they are. A read that isn't the last
 // brings a byte at least, so that this ends.
-fn fill<R: Read>(reader: &mut R, b: &mut [u8], have: usize, ended: bool) -> io::Result<Input>
+fn fill<R: Read>(reader: &mut R, b: &mut [u8], have: usize, ended: bool) -> Result<Input, Failure>
     requires { have ≤ length b.old }
     ensures have_le_have { IfOk result (λ input. (have ≤ input.have) × (input.have ≤ length b.old) × (input.ended ≡ false → input.have ≡ length b.old) × (ended ≡ true → (input.have ≡ have) × (input.ended ≡ true))) }
     ensures b_unchanged { take have b.new ≡ take have b.old }
@@ -93,7 +93,7 @@ fn read_on<R: Read>(
     ensures to_in_bounds { IfOk result (λ p. p.kept.turned.to ≤ length out.old) }
     ensures continues { IfOk result (λ p. Continues (length out.old) (holding_of b.old ended kept cnv.old seq.old) p.ended b.new out.old out.new p.kept cnv.new seq.new) }
 {
-    let input = fill(reader, b, kept.left, ended).map_err(Failure::Reading)?;
+    let input = fill(reader, b, kept.left, ended)?;
     let turned = kept.turned;
     let next = tape_pieces::next_part(b, input.have, input.ended, turned, cnv, seq, out);
     Ok(Playing {
@@ -139,7 +139,7 @@ fn play_tape<R: Read, W: Write>(
 ) -> Result<(), Failure>
     requires { (longest_opening ≤ length b.old) × (line_room ≤ length out.old) }
 {
-    let input = fill(reader, b, 0, false).map_err(Failure::Reading)?;
+    let input = fill(reader, b, 0, false)?;
     let kept = tape_pieces::first_part(b, input.have, input.ended, cnv, seq, out);
     let p = Playing {
         kept,
