@@ -43,7 +43,7 @@ use Rattle.disk.proofs.Reported.{record_shown, record_small, sound_at, disk-show
 use Rattle.disk.proofs.Found.{zone_found, zones_found}
 use Rattle.consistency.specs.System.{System, outstanding_on, Event, run, all_truthful, mounted, zone_of, history_of, perform_in}
 use Rattle.consistency.specs.Claim.{AsPromised}
-use Rattle.consistency.specs.Demand.{Compares, Start, History, after, Fresh, fresh_mount, Consistent, Demand3, AlwaysStarted, AlwaysReported, Recorded, AlwaysRecorded, Digested, AlwaysDigested, AlwaysAnswered}
+use Rattle.consistency.specs.Demand.{Compares, Start, History, after, Fresh, fresh_mount, Consistent, Demand3, AlwaysStarted, AlwaysReported, Recorded, AlwaysRecorded, AlwaysDigested, AlwaysAnswered}
 use Rattle.consistency.proofs.Shown.{shown_row}
 use Rattle.consistency.proofs.Promised.{promised}
 use Rattle.consistency.proofs.Bridge.{no_row, fill-listed}

@@ -2,7 +2,6 @@ use native.Mathlib.Omega.{arith}
 use lib.ListN.{length-set}
 use Rattle.answer_words.specs.Answers.{valueWords}
 use Rattle.answer_words.proofs.Front.{put_front}
-use borrow.Author.Rules.{rules}
 use Rattle.answer_words.proofs.put_values.Goals as goal
 
 pub bounds-out-1 : goal.bounds-out-1

@@ -1,7 +1,6 @@
 use borrow.Author.Tests.{eq-eqb, ne_eqb}
 use lib.ListN.{length}
 use Rattle.completion.specs.Completions.{completion_of}
-use borrow.Author.Rules.{rules}
 use Rattle.completion.proofs.effect_of_bytes.Goals as goal
 
 pub returns-then-bytes-eq-ZONE_BYTES : goal.returns-then-bytes-eq-ZONE_BYTES

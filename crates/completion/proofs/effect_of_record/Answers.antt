@@ -1,7 +1,6 @@
 use Rattle.zones.proofs.Faults.{tested}
 use Rattle.recovery.proofs.Laws.{misfit_faultless}
 use mathlib.Core.Path.{◌∙◌, sym}
-use borrow.Author.Rules.{rules}
 use Rattle.completion.proofs.effect_of_record.Goals as goal
 
 pub recovered-requires : goal.recovered-requires

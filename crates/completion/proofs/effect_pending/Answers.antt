@@ -1,4 +1,3 @@
-use borrow.Author.Rules.{rules}
 use Rattle.completion.proofs.effect_pending.Goals as goal
 
 pub succeeded-requires : goal.succeeded-requires

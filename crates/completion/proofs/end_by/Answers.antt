@@ -1,6 +1,5 @@
 use mathlib.Core.Path.{◌∙◌, sym}
 use Rattle.completion.specs.Completions.{effect_by}
-use borrow.Author.Rules.{rules}
 use Rattle.completion.proofs.end_by.Goals as goal
 
 pub returns-then-is_kind : goal.returns-then-is_kind

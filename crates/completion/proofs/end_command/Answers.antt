@@ -1,5 +1,4 @@
 use Rattle.held.proofs.Laws.{pending_safe}
-use borrow.Author.Rules.{rules}
 use Rattle.completion.proofs.end_command.Goals as goal
 
 pub effect_pending-requires : goal.effect_pending-requires

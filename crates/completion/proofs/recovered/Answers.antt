@@ -4,7 +4,6 @@ use Rattle.completion.specs.Completions.{recovering, recovered}
 use Rattle.completion.proofs.Laws.{recovered_otherwise}
 use mathlib.Core.Path.{◌∙◌, sym}
 use Rattle.completion.specs.Completions.{recovered}
-use borrow.Author.Rules.{rules}
 use Rattle.completion.proofs.recovered.Goals as goal
 
 pub returns-then-nothing_lost : goal.returns-then-nothing_lost

@@ -1,5 +1,4 @@
 use Rattle.completion.specs.Completions.{succeeded}
-use borrow.Author.Rules.{rules}
 use Rattle.completion.proofs.succeeded.Goals as goal
 
 pub returns : goal.returns

@@ -1,7 +1,6 @@
 use Rattle.engine.specs.Engine.{Input}
 use Rattle.engine.specs.Facts.{state_of}
 use Rattle.engine.proofs.Laws.{applied_steps, effect_fits}
-use borrow.Author.Rules.{rules}
 use Rattle.engine.proofs.call.Goals as goal
 
 pub apply-requires : goal.apply-requires

@@ -2,7 +2,6 @@ use Rattle.completion.specs.Completions.{completion_by}
 use Rattle.engine.specs.Engine.{Input}
 use Rattle.engine.specs.Facts.{state_of}
 use Rattle.engine.proofs.Laws.{applied_steps, effect_fits}
-use borrow.Author.Rules.{rules}
 use Rattle.engine.proofs.end_command.Goals as goal
 
 pub apply-requires : goal.apply-requires
