@@ -10,7 +10,7 @@ use lib.Seq.{length-take-le}
 use Rattle.types.specs.declared.Verdict.{Verdict}
 use Rattle.types.specs.declared.Verdict.TheVariants as verdict
 use Rattle.types.specs.declared.MountAnswer.TheVariants.{Mounted}
-use Rattle.types.specs.declared.FormatAnswer.TheVariants.{Refused, Formatted}
+use Rattle.types.specs.declared.FormatAnswer.TheVariants.{Formatted}
 use Rattle.types.specs.Blocks.{block_sectors, good_block}
 use Rattle.table.specs.Rows.{rows_lent}
 use Rattle.wire.proofs.Laws.{append_bytes}

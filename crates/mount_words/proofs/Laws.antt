@@ -22,7 +22,7 @@ use Rattle.types.proofs.Volumes.{BoundedVolume}
 use Rattle.wire.specs.Le.{le, little}
 use Rattle.wire.proofs.Laws.{little-le}
 use Rattle.answer_words.specs.Answers.{written}
-use Rattle.mount_words.specs.Words.{mount_length, account_length, state_at, mount_words, count_words, account_words, word, short, is_flag, is_policy, good_volume, good_state, possible_mount, possible_account, possible, flag_from, volume_from, account_from, mount_from, with_state, with_counts, Holds}
+use Rattle.mount_words.specs.Words.{mount_length, account_length, state_at, mount_words, account_words, word, short, is_flag, is_policy, good_volume, good_state, possible_mount, possible_account, possible, flag_from, volume_from, account_from, mount_from, with_state, with_counts, Holds}
 
 -- CODES, back from their words, and within their codes
 

@@ -1,4 +1,3 @@
-use borrow.Author.Tests.{not-false}
 use mathlib.Core.Path.{refl, sym}
 use Rattle.types.specs.declared.Refusal.TheVariants.{BadBlock}
 use Rattle.types.proofs.VerdictLaws.{check_passes}
@@ -8,7 +7,6 @@ use native.Mathlib.Omega.{arith}
 use Rattle.types.specs.Verdicts.{refuse}
 use Rattle.types.proofs.Blocks.{block_positive}
 use Rattle.format.specs.Format.{format_check}
-use borrow.Author.Rules.{rules}
 use Rattle.format.proofs.check.Goals as goal
 
 pub returns-then-not-good_block : goal.returns-then-not-good_block

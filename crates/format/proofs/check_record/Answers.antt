@@ -5,7 +5,6 @@ use Rattle.types.specs.Verdicts.{refuse}
 use Rattle.report.specs.Report.{zones_check}
 use Rattle.zones.proofs.Faults.{zone_faultless}
 use Rattle.format.specs.Format.{record_check}
-use borrow.Author.Rules.{rules}
 use Rattle.format.proofs.check_record.Goals as goal
 
 pub returns-then-zone-ne-ZONE_BYTES : goal.returns-then-zone-ne-ZONE_BYTES

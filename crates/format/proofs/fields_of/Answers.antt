@@ -1,5 +1,4 @@
 use Rattle.format.specs.Format.{fields_at}
-use borrow.Author.Rules.{rules}
 use Rattle.format.proofs.fields_of.Goals as goal
 
 pub returns : goal.returns

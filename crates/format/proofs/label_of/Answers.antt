@@ -4,7 +4,6 @@ use lib.Seq.{length-take-le}
 use native.Mathlib.Omega.{arith}
 use Rattle.superblock.specs.SuperBlock.{label_length}
 use Rattle.wire.proofs.Stores.{put_all}
-use borrow.Author.Rules.{rules}
 use Rattle.format.proofs.label_of.Goals as goal
 
 pub returns : goal.returns

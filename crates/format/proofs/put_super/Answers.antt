@@ -1,5 +1,4 @@
 use Rattle.format.proofs.Bytes.{super_put}
-use borrow.Author.Rules.{rules}
 use Rattle.format.proofs.put_super.Goals as goal
 
 pub returns : goal.returns

@@ -4,7 +4,6 @@ use Rattle.superblock.specs.declared.SuperRead.{SuperRead}
 use Rattle.superblock.specs.SuperBlock.{super_check}
 use Rattle.superblock.proofs.Told.{super_told, check_read}
 use Rattle.format.specs.Format.{fields_read}
-use borrow.Author.Rules.{rules}
 use Rattle.format.proofs.read_fields.Goals as goal
 
 pub fields_of-requires : goal.fields_of-requires

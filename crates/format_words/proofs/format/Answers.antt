@@ -1,8 +1,6 @@
 use mathlib.Core.Path.{sym, ◌∙◌}
-use borrow.Author.Tests.{not-true, not-false}
 use Rattle.answer_words.specs.Answers.{answerWords}
 use Rattle.format_words.specs.Words.{format_words}
-use borrow.Author.Rules.{rules}
 use Rattle.format_words.proofs.format.Goals as goal
 
 pub returns-then-not-is_formattable : goal.returns-then-not-is_formattable

@@ -1,7 +1,6 @@
 use mathlib.Core.Path.{◌∙◌}
 use native.Mathlib.Omega.{arith}
 use Rattle.wire.proofs.Stores.{put_all}
-use borrow.Author.Rules.{rules}
 use Rattle.format_words.proofs.put_uuid.Goals as goal
 
 pub returns : goal.returns

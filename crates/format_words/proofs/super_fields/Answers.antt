@@ -1,7 +1,5 @@
 use mathlib.Core.Path.{sym, ◌∙◌}
-use borrow.Author.Tests.{not-true, not-false}
 use Rattle.format_words.specs.Words.{fields_words}
-use borrow.Author.Rules.{rules}
 use Rattle.format_words.proofs.super_fields.Goals as goal
 
 pub returns-then-not-is_readable : goal.returns-then-not-is_readable

@@ -1,5 +1,4 @@
 use Rattle.answer_words.specs.Answers.{answerWords}
-use borrow.Author.Rules.{rules}
 use Rattle.format_words.proofs.tell_read.Goals as goal
 
 pub returns-in-Refused : goal.returns-in-Refused

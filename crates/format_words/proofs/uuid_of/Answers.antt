@@ -1,6 +1,5 @@
 use mathlib.Core.Path.{◌∙◌}
 use Rattle.wire.proofs.Stores.{put_all}
-use borrow.Author.Rules.{rules}
 use Rattle.format_words.proofs.uuid_of.Goals as goal
 
 pub returns : goal.returns

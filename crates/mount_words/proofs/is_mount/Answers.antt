@@ -2,7 +2,6 @@ use mathlib.Core.Bool.{false≢true}
 use native.Mathlib.Omega.{arith}
 use borrow.Author.Tests.{le-leb, lt-leb}
 use Rattle.mount_words.specs.Words.{possible_mount}
-use borrow.Author.Rules.{rules}
 use Rattle.mount_words.proofs.is_mount.Goals as goal
 
 pub returns-then-w-lt-MOUNT_WORDS : goal.returns-then-w-lt-MOUNT_WORDS

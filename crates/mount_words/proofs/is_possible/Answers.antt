@@ -1,6 +1,5 @@
 use Rattle.types.proofs.Tests.{and_left, and_right}
 use Rattle.mount_words.specs.Words.{possible}
-use borrow.Author.Rules.{rules}
 use Rattle.mount_words.proofs.is_possible.Goals as goal
 
 pub returns : goal.returns

@@ -1,5 +1,4 @@
 use Rattle.mount_words.specs.Words.{mount_from}
-use borrow.Author.Rules.{rules}
 use Rattle.mount_words.proofs.mount_from.Goals as goal
 
 pub returns : goal.returns

@@ -7,7 +7,6 @@ use lib.Seq.{sets}
 use Rattle.types.specs.declared.Account.{Account}
 use Rattle.answer_words.proofs.Front.{put_front}
 use Rattle.mount_words.specs.Words.{account_words, with_counts}
-use borrow.Author.Rules.{rules}
 use Rattle.mount_words.proofs.put_account.Goals as goal
 
 -- the words as they are stored, the counts first

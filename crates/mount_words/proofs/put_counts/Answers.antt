@@ -2,7 +2,6 @@ use native.Mathlib.Omega.{arith}
 use mathlib.Core.Path.{refl}
 use lib.ListN.{length-set}
 use Rattle.mount_words.specs.Words.{with_counts}
-use borrow.Author.Rules.{rules}
 use Rattle.mount_words.proofs.put_counts.Goals as goal
 
 pub bounds-x-1 : goal.bounds-x-1

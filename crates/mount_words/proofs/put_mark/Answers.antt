@@ -1,5 +1,4 @@
 use Rattle.mount_words.specs.Words.{with_state}
-use borrow.Author.Rules.{rules}
 use Rattle.mount_words.proofs.put_mark.Goals as goal
 
 pub returns : goal.returns

@@ -2,13 +2,12 @@ use Prim.Native.Nat.{ℕ}
 use native.Mathlib.Omega.{arith}
 use mathlib.Core.Path.{◌≡◌, ◌∙◌}
 use mathlib.Core.List.{List}
-use lib.ListN.{length-set, set}
-use lib.Seq.{sets, length-sets}
+use lib.ListN.{set}
+use lib.Seq.{sets}
 use Rattle.types.specs.declared.Mount.{Mount}
 use Rattle.types.specs.Codes.{flag_code}
 use Rattle.answer_words.proofs.Front.{put_front}
 use Rattle.mount_words.specs.Words.{volume_words, explicit_at, mount_words, with_state}
-use borrow.Author.Rules.{rules}
 use Rattle.mount_words.proofs.put_mount.Goals as goal
 
 -- the words as they are stored, one part after the other

@@ -1,5 +1,4 @@
 use mathlib.Core.Path.{sym}
-use borrow.Author.Rules.{rules}
 use Rattle.mount_words.proofs.put_state.Goals as goal
 
 pub returns : goal.returns

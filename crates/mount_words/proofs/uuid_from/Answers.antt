@@ -3,7 +3,6 @@ use mathlib.Core.Path.{ap, ◌∙◌}
 use mathlib.Core.List.{List}
 use lib.Seq.{sets}
 use Rattle.wire.specs.Le.{little}
-use borrow.Author.Rules.{rules}
 use Rattle.mount_words.proofs.uuid_from.Goals as goal
 
 pub returns : goal.returns

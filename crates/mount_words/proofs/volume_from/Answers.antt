@@ -1,4 +1,3 @@
-use borrow.Author.Rules.{rules}
 use Rattle.mount_words.proofs.volume_from.Goals as goal
 
 pub returns : goal.returns

@@ -4,7 +4,6 @@ use mathlib.Core.Path.{ap}
 use Rattle.tape_lines.specs.Facts.{line_room}
 use Rattle.tape_turns.specs.declared.Turned.{Turned}
 use Rattle.tape.proofs.Playing.{copied}
-use borrow.Author.Rules.{rules}
 use Rattle.tape.proofs.block_into.Goals as goal
 
 pub copy_lines-requires : goal.copy_lines-requires

@@ -1,13 +1,12 @@
-use Prim.Native.Nat.{ℕ, ◌≤◌}
+use Prim.Native.Nat.{ℕ}
 use native.Mathlib.Omega.{arith}
 use mathlib.Core.Path.{◌≡◌, refl, sym, subst, ◌∙◌}
 use mathlib.Core.Bool.{true, false}
 use lib.ListN.{length}
 use Rattle.tape_turns.specs.Facts.{rest_of}
-use Rattle.tape.specs.Blocks.{is_ready, block_of}
-use Rattle.tape.proofs.Texts.{left}
+use Rattle.tape.specs.Blocks.{is_ready}
 use Rattle.tape.proofs.Blocks.{ready_room}
-use Rattle.tape.proofs.Loop.{Block, begin, again, less, over}
+use Rattle.tape.proofs.Loop.{begin, again, less, over}
 use Rattle.tape.proofs.play_block.Goals as goal
 
 pub loop-cnv-init : goal.loop-cnv-init

@@ -1,13 +1,10 @@
-use Prim.Native.Nat.{ℕ, ◌≤◌}
-use native.Mathlib.Omega.{arith}
-use mathlib.Core.Path.{◌≡◌, refl, sym, subst, ◌∙◌}
-use mathlib.Core.Bool.{true, false}
+use Prim.Native.Nat.{◌≤◌}
+use mathlib.Core.Path.{◌≡◌}
 use lib.ListN.{length}
 use Rattle.tape_turns.specs.Facts.{rest_of}
-use Rattle.tape.specs.Blocks.{is_ready, block_of}
+use Rattle.tape.specs.Blocks.{block_of}
 use Rattle.tape.proofs.Texts.{left}
-use Rattle.tape.proofs.Blocks.{ready_room}
-use Rattle.tape.proofs.Loop.{Block, begin, again, less, over}
+use Rattle.tape.proofs.Loop.{Block}
 use Rattle.tape.proofs.play_block.Given as goal
 
 abbrev pub invariant-loop-cnv : goal.invariant-loop-cnv

@@ -5,10 +5,9 @@ use lib.Dec.{leb}
 use lib.ListN.{length}
 use borrow.Author.Tests.{leb-true}
 use Rattle.types.proofs.Tests.{and_left, and_right}
-use Rattle.tape.specs.Tape.{goes_further, text_from}
+use Rattle.tape.specs.Tape.{goes_further}
 use Rattle.tape_turns.specs.Facts.{rest_of}
-use Rattle.tape.proofs.Playing.{fewer, Going, begin, again, over}
-use Rattle.tape.proofs.Texts.{left}
+use Rattle.tape.proofs.Playing.{fewer, begin, again, over}
 use Rattle.tape.proofs.play_rest.Goals as goal
 
 pub loop-t-init : goal.loop-t-init

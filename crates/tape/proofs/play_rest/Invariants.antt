@@ -1,13 +1,8 @@
-use Prim.Native.Nat.{ℕ}
-use mathlib.Core.Path.{◌≡◌, refl, ◌∙◌, subst}
-use mathlib.Core.Bool.{◌&&◌, false}
-use lib.Dec.{leb}
+use mathlib.Core.Path.{◌≡◌}
 use lib.ListN.{length}
-use borrow.Author.Tests.{leb-true}
-use Rattle.types.proofs.Tests.{and_left, and_right}
-use Rattle.tape.specs.Tape.{goes_further, text_from}
+use Rattle.tape.specs.Tape.{text_from}
 use Rattle.tape_turns.specs.Facts.{rest_of}
-use Rattle.tape.proofs.Playing.{fewer, Going, begin, again, over}
+use Rattle.tape.proofs.Playing.{Going}
 use Rattle.tape.proofs.Texts.{left}
 use Rattle.tape.proofs.play_rest.Given as goal
 

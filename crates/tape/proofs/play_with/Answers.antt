@@ -2,7 +2,6 @@ use mathlib.Core.Path.{◌∙◌}
 use Rattle.tape_turns.specs.Turns.{open_turn}
 use native.Mathlib.Omega.{arith}
 use Rattle.tape.proofs.Playing.{copied, played, tape_text_lem, answered}
-use borrow.Author.Rules.{rules}
 use Rattle.tape.proofs.play_with.Goals as goal
 
 pub play_rest-end-requires : goal.play_rest-end-requires

@@ -1,6 +1,5 @@
 use native.Mathlib.Omega.{arith}
 use Rattle.text.proofs.Stores.{then}
-use borrow.Author.Rules.{rules}
 use Rattle.tape_lines.proofs.put_command.Goals as goal
 
 pub returns : goal.returns

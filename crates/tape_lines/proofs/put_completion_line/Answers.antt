@@ -1,7 +1,6 @@
 use native.Mathlib.Omega.{arith}
 use Rattle.text.proofs.Stores.{then}
 use Rattle.tape_lines.specs.Lines.{completion_line}
-use borrow.Author.Rules.{rules}
 use Rattle.tape_lines.proofs.put_completion_line.Goals as goal
 
 pub returns : goal.returns

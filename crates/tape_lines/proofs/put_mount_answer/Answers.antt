@@ -1,6 +1,5 @@
 use native.Mathlib.Omega.{arith}
 use Rattle.text.proofs.Stores.{then}
-use borrow.Author.Rules.{rules}
 use Rattle.tape_lines.proofs.put_mount_answer.Goals as goal
 
 pub returns-in-Refused : goal.returns-in-Refused

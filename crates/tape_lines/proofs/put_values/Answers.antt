@@ -1,6 +1,5 @@
 use native.Mathlib.Omega.{arith}
 use Rattle.text.proofs.Stores.{then, nothing}
-use borrow.Author.Rules.{rules}
 use Rattle.tape_lines.proofs.put_values.Goals as goal
 
 pub returns-in-Nothing : goal.returns-in-Nothing

@@ -2,7 +2,6 @@ use mathlib.Core.Path.{sym}
 use lib.ListN.{take}
 use lib.Seq.{length-take-le}
 use Rattle.tape_pieces.proofs.Parts.{first_keeps}
-use borrow.Author.Rules.{rules}
 use Rattle.tape_pieces.proofs.first_part.Goals as goal
 
 pub slice_bounds-open_tape-end-2 : goal.slice_bounds-open_tape-end-2

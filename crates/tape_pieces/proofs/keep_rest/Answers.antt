@@ -5,7 +5,6 @@ use mathlib.Core.List.{[]}
 use lib.ListN.{length, take, drop, length-drop, drop_of_length-le}
 use lib.Seq.{sets, length-take-le}
 use Rattle.tape_pieces.proofs.Stores.{between}
-use borrow.Author.Rules.{rules}
 use Rattle.tape_pieces.proofs.keep_rest.Goals as goal
 
 pub returns-then-have-from : goal.returns-then-have-from

@@ -1,4 +1,3 @@
-use borrow.Author.Rules.{rules}
 use Rattle.tape_pieces.proofs.next_part.Goals as goal
 
 pub returns : goal.returns

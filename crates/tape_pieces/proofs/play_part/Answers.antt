@@ -4,7 +4,6 @@ use lib.ListN.{length, take}
 use lib.Seq.{length-take-le}
 use Rattle.tape_turns.specs.Facts.{rest_of}
 use Rattle.tape_pieces.proofs.Parts.{keeps}
-use borrow.Author.Rules.{rules}
 use Rattle.tape_pieces.proofs.play_part.Goals as goal
 
 pub slice_bounds-play_block-end-2 : goal.slice_bounds-play_block-end-2

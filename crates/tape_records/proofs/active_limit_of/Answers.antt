@@ -1,4 +1,3 @@
-use borrow.Author.Rules.{rules}
 use Rattle.tape_records.proofs.active_limit_of.Goals as goal
 
 pub returns : goal.returns

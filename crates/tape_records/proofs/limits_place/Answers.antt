@@ -1,5 +1,4 @@
 use native.Mathlib.Omega.{arith}
-use borrow.Author.Rules.{rules}
 use Rattle.tape_records.proofs.limits_place.Goals as goal
 
 pub returns : goal.returns

@@ -1,5 +1,4 @@
 use mathlib.Core.Path.{sym, ◌∙◌}
-use borrow.Author.Rules.{rules}
 use Rattle.tape_records.proofs.mark_at.Goals as goal
 
 pub letters_at-requires : goal.letters_at-requires

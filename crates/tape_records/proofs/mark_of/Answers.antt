@@ -1,5 +1,4 @@
 use Rattle.tape_records.specs.Records.{mark_of}
-use borrow.Author.Rules.{rules}
 use Rattle.tape_records.proofs.mark_of.Goals as goal
 
 pub returns : goal.returns

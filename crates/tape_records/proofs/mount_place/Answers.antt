@@ -5,7 +5,6 @@ use lib.ListN.{length, take, drop, length-drop}
 use lib.Seq.{take_all}
 use Rattle.report.specs.Report.{zone_count}
 use Rattle.tape_records.specs.Records.{report_start, report_length}
-use borrow.Author.Rules.{rules}
 use Rattle.tape_records.proofs.mount_place.Goals as goal
 
 pub returns : goal.returns

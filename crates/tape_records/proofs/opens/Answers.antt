@@ -1,7 +1,6 @@
 use mathlib.Core.Path.{sym, ◌∙◌}
 use mathlib.Core.Bool.{false≢true}
 use Rattle.tape_records.specs.Records.{opens}
-use borrow.Author.Rules.{rules}
 use Rattle.tape_records.proofs.opens.Goals as goal
 
 pub mount_stands-requires : goal.mount_stands-requires

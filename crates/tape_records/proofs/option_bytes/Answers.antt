@@ -2,7 +2,6 @@ use mathlib.Core.Path.{◌≡◌}
 use Prim.Native.Nat.{◌+◌, ◌-◌}
 use native.Mathlib.Omega.{arith}
 use Rattle.tape_records.specs.Records.{mount_bytes, options_length}
-use borrow.Author.Rules.{rules}
 use Rattle.tape_records.proofs.option_bytes.Goals as goal
 
 pub returns : goal.returns

@@ -1,6 +1,5 @@
 use mathlib.Core.Path.{sym, ◌∙◌}
 use Rattle.tape_records.specs.Records.{pick}
-use borrow.Author.Rules.{rules}
 use Rattle.tape_records.proofs.pick.Goals as goal
 
 pub returns-then-same_letters : goal.returns-then-same_letters

@@ -1,6 +1,5 @@
 use mathlib.Core.Path.{sym, ◌∙◌}
 use Rattle.tape_records.specs.Records.{record_at}
-use borrow.Author.Rules.{rules}
 use Rattle.tape_records.proofs.record_at.Goals as goal
 
 pub record_of-requires : goal.record_of-requires

@@ -1,6 +1,5 @@
 use mathlib.Core.Path.{sym, ◌∙◌}
 use Rattle.tape_turns.specs.Turns.{open_turn}
-use borrow.Author.Rules.{rules}
 use Rattle.tape_turns.proofs.open_tape.Goals as goal
 
 pub opens-requires : goal.opens-requires

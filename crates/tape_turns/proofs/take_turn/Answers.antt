@@ -1,7 +1,6 @@
 use mathlib.Core.Path.{sym, ◌∙◌}
 use native.Mathlib.Omega.{arith}
 use Rattle.tape_turns.specs.Turns.{turn_at}
-use borrow.Author.Rules.{rules}
 use Rattle.tape_turns.proofs.take_turn.Goals as goal
 
 pub record_at-found-requires : goal.record_at-found-requires
