@@ -2,7 +2,7 @@
 -- Assumes nothing.
 use Prim.Native.Nat.{ℕ, ◌≤◌, ◌<◌, ◌^◌, ◌%◌}
 use native.Mathlib.Omega.{arith}
-use mathlib.Core.Bool.{Bool, true, false, cond}
+use mathlib.Core.Bool.{Bool, true, false}
 use mathlib.Core.List.{List, [], ◌∷◌, map}
 use mathlib.Core.Logic.{◌≢◌}
 use mathlib.Core.Path.{◌≡◌, refl, ap, ◌∙◌, sym, subst}
@@ -23,9 +23,10 @@ use Rattle.engine.proofs.Frame.{frame}
 use Rattle.answer_words.specs.Answers.{answerLength, answerWords, written}
 use Rattle.mount_words.specs.Words.{mount_words, account_words, possible, mount_from, with_state, with_counts, Holds}
 use Rattle.mount_words.proofs.Laws.{BoundedAccount, written_back, state_back, state_stays}
-use Rattle.step_words.specs.Words.{Changed, told, unwritten, usable, step_words}
+use Rattle.step_words.specs.Words.{Changed, told, usable, step_words}
 use Rattle.mount_call_words.specs.Words.{told_mounted, roomy, mount_given}
-use Rattle.capi.specs.Chain.{state_in, Keeps, Unchanged, run_words, Typed, Empty, StepKept, RefusedKept, MountKept, MountEmpty, ChainKept}
+use Rattle.capi.specs.Chain.{state_in, Keeps, run_words, Typed, Empty, StepKept, RefusedKept, MountKept, MountEmpty, ChainKept}
+use Rattle.capi.proofs.Refused.{LeavesAll}
 
 -- A STEP of usable words
 usable-possible : (w u : List ℕ) (room : ℕ) → usable w u room ≡ true → possible w u ≡ true
@@ -78,8 +79,7 @@ unfolding StepKept
 step_kept = step_of
 
 -- A REFUSAL leaves the state, and so every word
-refused_by : (w u cnv seq : List ℕ) (x : Input) (a : List ℕ) (t : Bool) → usable w u (length a) ≡ t
-    → let g = cond t (told w u a (step (state_in w u cnv seq) x)) (unwritten w u cnv seq a) in g.number ≢ 0 → g.number ≢ 7 → Unchanged g w u cnv seq
+refused_by : (w u cnv seq : List ℕ) (x : Input) (a : List ℕ) (t : Bool) → usable w u (length a) ≡ t → LeavesAll w u cnv seq x a t
 unfolding Frame
 refused_by w u cnv seq x a false h e f = record { words = refl; account = refl; cnv = refl; seq = refl }
 refused_by w u cnv seq x a true h e f =

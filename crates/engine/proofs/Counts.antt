@@ -1,25 +1,23 @@
 -- The account stays true, from a mount on.
 -- Assumes nothing.
 use mathlib.Core.List.{List, [], ◌∷◌}
-use Rattle.types.specs.declared.FileKind.TheVariants.{Sequential}
 use Rattle.types.specs.declared.Effect.{Effect}
 use Rattle.types.specs.Codes.{kind_from}
-use Rattle.table.specs.Rows.{stored}
-use Rattle.account.specs.Counts.{TrueCounts}
 use Rattle.mount.proofs.Counted.{mount_true}
 use Rattle.calls.proofs.Laws as called
 use Rattle.completion.proofs.Laws as completed
 use Rattle.engine.specs.Engine.{State, Input, call, completion, step, run}
 use Rattle.engine.specs.Counts.{Counted, StaysCounted, AlwaysCounted}
+use Rattle.engine.proofs.Kept.{CountedAfter}
 use Rattle.engine.proofs.Laws.{call_by, completion_by_lem}
 
 pub stays_counted : StaysCounted
 unfolding StaysCounted step
 stays_counted s (call kind n x) h =
-    call_by s.mount s.cnv s.seq (λ (d : Effect). TrueCounts d.outcome.mount (stored Sequential d.store s.seq)) kind n x
+    call_by s.mount s.cnv s.seq (λ (d : Effect). CountedAfter s d) kind n x
     (λ e. called.effect_stays s.mount s.cnv s.seq (kind_from kind) n x h) h
 stays_counted s (completion kind n x) h =
-    completion_by_lem s.mount s.cnv s.seq (λ (d : Effect). TrueCounts d.outcome.mount (stored Sequential d.store s.seq)) kind n x
+    completion_by_lem s.mount s.cnv s.seq (λ (d : Effect). CountedAfter s d) kind n x
     (λ e. completed.effect_stays s.mount s.cnv s.seq (kind_from kind) n x h) h
 
 -- after a list of them

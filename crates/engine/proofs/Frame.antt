@@ -3,7 +3,6 @@
 use Prim.Native.Nat.{ℕ, ◌/◌}
 use native.Mathlib.Omega.{arith}
 use mathlib.Core.Path.{◌≡◌, refl, sym, ap, ◌∙◌}
-use mathlib.Core.Logic.{◌≢◌}
 use mathlib.Core.Bool.{false}
 use mathlib.Core.List.{List}
 use lib.ListN.{get_or}
@@ -22,7 +21,6 @@ use Rattle.types.specs.declared.Store.TheVariants as store
 use Rattle.types.specs.declared.Call.{Call}
 use Rattle.types.specs.Codes.{kind_code, kind_from}
 use Rattle.types.specs.Effects.{refusing}
-use Rattle.types.specs.Numbers.{answer_number}
 use Rattle.table.specs.Rows.{row_width, row_at, stored}
 use Rattle.table.proofs.Laws.{word_outside, row_at_other}
 use Rattle.table.proofs.Stores.{stored_either, stored-length, of_stored}
@@ -41,54 +39,51 @@ use Rattle.completion.specs.Completions.{Completion, good, failed, malformed, su
 use Rattle.completion.proofs.Laws.{either}
 use Rattle.engine.specs.Engine.{State, Input, call, completion, effect_of, applied, step}
 use Rattle.engine.specs.Frame.{kind_in, number_in, Other, table_of, TableKeeps, Frame, CallsKeep, OthersStay}
+use Rattle.engine.proofs.Kept.{Spares, Still}
 use Rattle.engine.proofs.Laws.{call_by, completion_by_lem, OfFile, effect_names, step_fixes, step_limits}
 
 -- WHAT AN EFFECT KEEPS of the mark, and of everything where it is refused
 module _ (s : State) where
-  record Spares (d : Effect) : Type 0 where
-    mark : answer_number d.outcome.answer ≢ 7 → d.outcome.mount.readonly ≡ s.mount.readonly
-    refused : answer_number d.outcome.answer ≢ 0 → answer_number d.outcome.answer ≢ 7 → applied s d ≡ s
-
-  refusing_spares : (x : Refusal) → Spares (refusing s.mount x)
+  refusing_spares : (x : Refusal) → Spares s (refusing s.mount x)
   refusing_spares x = record { mark = λ e. refl; refused = λ e f. refl }
 
   settled_spares : (k : FileKind) (n : ℕ) (r : Row) (x : Call) (a : Answer) → (calls.settled s.mount k n r x a).outcome.mount.readonly ≡ s.mount.readonly
-      → Spares (calls.settled s.mount k n r x a)
+      → Spares s (calls.settled s.mount k n r x a)
   settled_spares k n r x (Refused y) h = refusing_spares y
   settled_spares k n r x (Done count) h = record { mark = λ e. h; refused = λ e f. absurd (e refl) }
   settled_spares k n r x (Issue c) h = record { mark = λ e. h; refused = λ e f. absurd (e refl) }
 
   -- a command that failed
-  failing_spares : (m : Mount) (h : Held) (r : Row) → Spares (failing m h r)
+  failing_spares : (m : Mount) (h : Held) (r : Row) → Spares s (failing m h r)
   failing_spares m h r = record { mark = λ e. absurd (e refl); refused = λ e f. absurd (f refl) }
 
-  recovered_spares : (h : Held) (r : Row) (z : Zone) → Spares (recovered s.mount h r z)
+  recovered_spares : (h : Held) (r : Row) (z : Zone) → Spares s (recovered s.mount h r z)
   unfolding recovered
   recovered_spares h r z =
       let p = s.mount.volume.policy in
       let after = kept_open h.command.kind (recovered_row p h.kind z r) in
-      either Spares (nothing_lost h.kind h.command.kind z r.size) _ _ (failing_spares s.mount h r) (failing_spares (accounted (marked_by p s.mount) h.kind r after) h after)
+      either (Spares s) (nothing_lost h.kind h.command.kind z r.size) _ _ (failing_spares s.mount h r) (failing_spares (accounted (marked_by p s.mount) h.kind r after) h after)
 
-  effect_spares : (h : Held) (r : Row) (x : Completion) → Spares (effect_on s.mount h r x)
+  effect_spares : (h : Held) (r : Row) (x : Completion) → Spares s (effect_on s.mount h r x)
   unfolding succeeded
   effect_spares h r good = record { mark = λ e. accounted_mark s.mount h.kind r _; refused = λ e f. absurd (e refl) }
   effect_spares h r (failed z) =
-      either Spares (record_fits s.mount.volume.block h.kind r z) _ _ (recovered_spares h r z) (refusing_spares (refusal.BadRecord (misfit s.mount.volume.block h.kind r z)))
+      either (Spares s) (record_fits s.mount.volume.block h.kind r z) _ _ (recovered_spares h r z) (refusing_spares (refusal.BadRecord (misfit s.mount.volume.block h.kind r z)))
   effect_spares h r malformed = refusing_spares (refusal.BadRecord fault.Nothing)
 
-  pending_spares : (p : Pending) (x : Completion) → Spares (effect_pending s.mount p x)
+  pending_spares : (p : Pending) (x : Completion) → Spares s (effect_pending s.mount p x)
   pending_spares (pending.On h r) x = effect_spares h r x
   pending_spares (pending.Refused y) x = refusing_spares y
 
-  input_spares : (x : Input) → Spares (effect_of s x)
+  input_spares : (x : Input) → Spares s (effect_of s x)
   input_spares (call kind n x) =
-      call_by s.mount s.cnv s.seq Spares kind n x
-      (λ e. called.call_cases s.mount s.cnv s.seq (kind_from kind) n x Spares
+      call_by s.mount s.cnv s.seq (Spares s) kind n x
+      (λ e. called.call_cases s.mount s.cnv s.seq (kind_from kind) n x (Spares s)
       (λ r w. settled_spares (kind_from kind) n r x (calls.on_row s.mount (kind_from kind) r x) (called.settled_keeps s.mount s.cnv s.seq (kind_from kind) n x r (calls.on_row s.mount (kind_from kind) r x)).1)
       (λ y f. refusing_spares y))
       (refusing_spares _)
   input_spares (completion kind n x) =
-      completion_by_lem s.mount s.cnv s.seq Spares kind n x (λ e. pending_spares (pending_of s.mount s.cnv s.seq (kind_from kind) n) x) (refusing_spares _)
+      completion_by_lem s.mount s.cnv s.seq (Spares s) kind n x (λ e. pending_spares (pending_of s.mount s.cnv s.seq (kind_from kind) n) x) (refusing_spares _)
 
 -- WHAT A STORE KEEPS of a table
 stored-words : (x : Input) (k : FileKind) (d : Store) (t : List ℕ) (j : ℕ) → OfFile (kind_in x) (number_in x) d → Other x k (j / row_width) → get_or (stored k d t) j 0 ≡ get_or t j 0
@@ -118,8 +113,8 @@ frame s x =
     record { volume = step_fixes s x; open_limit = limits.0; active_limit = limits.1; mark = w.mark; tables = tables_keep s x; refused = w.refused }
 
 -- A CALL never moves the mark, and the account only by an open or a close.
-settled_still : (s : State) (k : FileKind) (n : ℕ) (r : Row) (x : Call) (a : Answer) → counts k x ≡ false → (count : ℕ) → let d = calls.settled s.mount k n r x a in
-    d.outcome.answer ≡ Done count → applied s d ≡ s
+settled_still : (s : State) (k : FileKind) (n : ℕ) (r : Row) (x : Call) (a : Answer) → counts k x ≡ false → (count : ℕ)
+    → Still s count (calls.settled s.mount k n r x a)
 settled_still s k n r x (Refused y) e count f = refl
 settled_still s k n r x (Done y) e count f = rw e
 settled_still s k n r x (Issue c) e count f = let z : ◌≡◌ {A = ℕ} 0 1 = cc in absurd (omega arith)
@@ -131,7 +126,7 @@ calls_keep s kind n x =
       mark = call_by s.mount s.cnv s.seq (λ d. d.outcome.mount.readonly ≡ s.mount.readonly) kind n x (λ e. (called.effect_keeps s.mount s.cnv s.seq (kind_from kind) n x).1) refl;
       mount = λ u. call_by s.mount s.cnv s.seq (λ d. d.outcome.mount ≡ s.mount) kind n x (λ e. called.effect_uncounted s.mount s.cnv s.seq (kind_from kind) n x u) refl;
       at_once = λ u count.
-          let P : Effect → Type 0 = λ d. d.outcome.answer ≡ Done count → applied s d ≡ s in
+          let P : Effect → Type 0 = λ d. Still s count d in
           call_by s.mount s.cnv s.seq P kind n x
           (λ e. called.call_cases s.mount s.cnv s.seq (kind_from kind) n x P (λ r w. settled_still s (kind_from kind) n r x (calls.on_row s.mount (kind_from kind) r x) u count) (λ y f g. refl))
           (λ g. refl);
