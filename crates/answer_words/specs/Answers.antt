@@ -3,8 +3,8 @@ use Rattle.std.specs.Prelude.{ℕ, List, [], ◌∷◌, ◌++◌, length, get_or
 use Rattle.answer_words.specs.declared.AnswerWords.{AnswerWords}
 
 -- the words of an answer
-abbrev pub answerLength : ℕ
-answerLength = 7
+abbrev pub answer_length : ℕ
+answer_length = 7
 
 -- how many values there are, and up to six of them; a value that there isn't is 0
 abbrev pub values_of : List ℕ → AnswerWords
@@ -19,12 +19,12 @@ values_of vs =
       sixth = get_or vs 5 0;
     }
 
-abbrev pub valueWords : AnswerWords → List ℕ
-valueWords v = v.count ∷ v.first ∷ v.second ∷ v.third ∷ v.fourth ∷ v.fifth ∷ v.sixth ∷ []
+abbrev pub value_words : AnswerWords → List ℕ
+value_words v = v.count ∷ v.first ∷ v.second ∷ v.third ∷ v.fourth ∷ v.fifth ∷ v.sixth ∷ []
 
 -- an answer's values as words
-unfoldable pub answerWords : List ℕ → List ℕ
-answerWords vs = valueWords (values_of vs)
+unfoldable pub answer_words : List ℕ → List ℕ
+answer_words vs = value_words (values_of vs)
 
 -- words put in front of others: these, and then what was there
 unfoldable pub written : List ℕ → List ℕ → List ℕ

@@ -3,7 +3,7 @@
 
 ghost use Rattle.std.specs.Prelude.{◌≡◌, [], ◌∷◌, ◌≤◌, length};
 ghost use Rattle.types.specs.Numbers.{listed, refusal_values, answer_values, mount_values, find_values, show_values, format_values};
-ghost use Rattle.answer_words.specs.Answers.{answerLength, values_of, valueWords, written};
+ghost use Rattle.answer_words.specs.Answers.{answer_length, values_of, value_words, written};
 
 use types::{Answer, FindAnswer, FormatAnswer, MountAnswer, Refusal, ShowAnswer, Values};
 
@@ -138,8 +138,8 @@ pub fn four_values(first: u64, second: u64, third: u64, fourth: u64) -> AnswerWo
 
 // Puts an answer's values into its words.
 pub fn put_values(out: &mut [u64], v: AnswerWords)
-    requires { answerLength ≤ length out.old }
-    ensures { out.new ≡ written out.old (valueWords v) }
+    requires { answer_length ≤ length out.old }
+    ensures { out.new ≡ written out.old (value_words v) }
 {
     out[0] = v.count;
     out[1] = v.first;

@@ -1,12 +1,12 @@
 -- The words of a caller in C hold the engine's mount value, from a mount on.
 -- Assumes nothing.
-use Prim.Native.Nat.{ℕ, ◌≤◌, ◌<◌, ◌^◌, ◌%◌}
+use Prim.Native.Nat.{ℕ, ◌≤◌, ◌<◌, ◌^◌}
 use native.Mathlib.Omega.{arith}
 use mathlib.Core.Bool.{Bool, true, false}
 use mathlib.Core.List.{List, [], ◌∷◌, map}
 use mathlib.Core.Logic.{◌≢◌}
 use mathlib.Core.Path.{◌≡◌, refl, ap, ◌∙◌, sym, subst}
-use lib.ListN.{length, get_or, drop, length-append}
+use lib.ListN.{length, drop, length-append}
 use borrow.Author.Tests.{le-leb}
 use Rattle.types.specs.declared.MountAnswer.{MountAnswer}
 use Rattle.types.specs.declared.MountAnswer.TheVariants.{Refused, Mounted}
@@ -20,7 +20,7 @@ use Rattle.engine.specs.Engine.{State, mounted, Input, step, run}
 use Rattle.engine.specs.Frame.{Frame}
 use Rattle.engine.proofs.Laws.{step_fixes, step_limits, step_small}
 use Rattle.engine.proofs.Frame.{frame}
-use Rattle.answer_words.specs.Answers.{answerLength, answerWords, written}
+use Rattle.answer_words.specs.Answers.{answer_length, answer_words, written}
 use Rattle.mount_words.specs.Words.{mount_words, account_words, possible, mount_from, with_state, with_counts, Holds}
 use Rattle.mount_words.proofs.Laws.{BoundedAccount, written_back, state_back, state_stays}
 use Rattle.step_words.specs.Words.{Changed, told, usable, step_words}
@@ -64,7 +64,7 @@ step-told : (w u cnv seq : List ℕ) (x : Input) (a : List ℕ) → usable w u (
 unfolding step_words
 step-told w u cnv seq x a h = rw h
 
-words-usable : (w u a : List ℕ) → possible w u ≡ true → answerLength ≤ length a → usable w u (length a) ≡ true
+words-usable : (w u a : List ℕ) → possible w u ≡ true → answer_length ≤ length a → usable w u (length a) ≡ true
 unfolding usable
 words-usable w u a h room = both h (le-leb _ _ room)
 
@@ -144,11 +144,11 @@ mount_empty block superblock options report open_limit active_limit cnv seq w u 
 -- THE CHAIN
 
 -- words for an answer that have room for it still have, once it is written
-room_stays : (a vs : List ℕ) → answerLength ≤ length (written a (answerWords vs))
-unfolding written answerWords
-room_stays a vs = omega (arith, length-append (answerWords vs) (drop (length (answerWords vs)) a))
+room_stays : (a vs : List ℕ) → answer_length ≤ length (written a (answer_words vs))
+unfolding written answer_words
+room_stays a vs = omega (arith, length-append (answer_words vs) (drop (length (answer_words vs)) a))
 
-chain_run : (xs : List Input) (g : Changed) (s : State) → answerLength ≤ length g.answer → Keeps g s
+chain_run : (xs : List Input) (g : Changed) (s : State) → answer_length ≤ length g.answer → Keeps g s
     → ((run_words g xs).numbers ≡ map answer_number (run s xs).replies) × Keeps (run_words g xs).last (run s xs).state
 unfolding run_words run
 chain_run [] g s room k = (refl, k)
@@ -157,7 +157,7 @@ chain_run (x ∷ xs) g s room k =
     let ready = words-usable g.mount g.account g.answer k.words.0 room in
     let next = step_words g.mount g.account g.cnv g.seq x g.answer in
     let (number, kept) = step_of g.mount g.account g.cnv g.seq x g.answer ready in
-    let roomy : answerLength ≤ length next.answer = rw (step-told g.mount g.account g.cnv g.seq x g.answer ready) (room_stays g.answer _) in
+    let roomy : answer_length ≤ length next.answer = rw (step-told g.mount g.account g.cnv g.seq x g.answer ready) (room_stays g.answer _) in
     let (numbers, last) = chain_run xs next (step s x).state roomy (subst (λ (t : State). Keeps next (step t x).state) same kept) in
     (ap (λ (n : ℕ). n ∷ (run_words next xs).numbers) (number ∙ ap (λ (t : State). answer_number (step t x).reply) same) ∙ ap (λ (l : List ℕ). answer_number (step s x).reply ∷ l) numbers, last)
 

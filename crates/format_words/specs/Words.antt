@@ -7,7 +7,7 @@ use Rattle.types.specs.Numbers.{refusal_number, refusal_values, format_number, f
 use Rattle.superblock.specs.SuperBlock.{label_length, uuid_length}
 use Rattle.format.specs.declared.SuperFields.{SuperFields}
 use Rattle.format.specs.Format.{Formatting, format_outcome, fields_read}
-use Rattle.answer_words.specs.Answers.{answerLength, answerWords, written}
+use Rattle.answer_words.specs.Answers.{answer_length, answer_words, written}
 
 -- ---- formatting
 
@@ -19,10 +19,10 @@ pub record Formatted : Type 0 where
 
 -- the uuid has its length, and the answer has room
 unfoldable pub formattable : ℕ → ℕ → Bool
-formattable uuid room = eqb uuid uuid_length && leb answerLength room
+formattable uuid room = eqb uuid uuid_length && leb answer_length room
 
 abbrev pub told_formatted : List ℕ → Formatting → Formatted
-told_formatted a o = record { number = format_number o.answer; block = o.block; answer = written a (answerWords (format_values o.answer)) }
+told_formatted a o = record { number = format_number o.answer; block = o.block; answer = written a (answer_words (format_values o.answer)) }
 
 -- 10, with nothing written
 abbrev pub unformatted : List ℕ → List ℕ → Formatted
@@ -43,7 +43,7 @@ pub record Read : Type 0 where
 
 -- label and uuid have their lengths, and the answer has room
 unfoldable pub readable : ℕ → ℕ → ℕ → Bool
-readable label uuid room = eqb label label_length && eqb uuid uuid_length && leb answerLength room
+readable label uuid room = eqb label label_length && eqb uuid uuid_length && leb answer_length room
 
 -- a refusal leaves label and uuid as they were
 abbrev pub told_read : Verdict → SuperFields → List ℕ → List ℕ → List ℕ → Read
@@ -52,9 +52,9 @@ told_read verdict.Passed v label uuid a =
       number = 0;
       label = v.label;
       uuid = v.uuid;
-      answer = written a (answerWords (v.features ∷ v.owner ∷ v.group ∷ v.mode ∷ []));
+      answer = written a (answer_words (v.features ∷ v.owner ∷ v.group ∷ v.mode ∷ []));
     }
-told_read (verdict.Refused x) v label uuid a = record { number = refusal_number x; label = label; uuid = uuid; answer = written a (answerWords (refusal_values x)) }
+told_read (verdict.Refused x) v label uuid a = record { number = refusal_number x; label = label; uuid = uuid; answer = written a (answer_words (refusal_values x)) }
 
 unfoldable pub fields_words : List ℕ → List ℕ → List ℕ → List ℕ → Read
 fields_words b label uuid a =

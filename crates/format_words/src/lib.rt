@@ -4,7 +4,7 @@
 
 ghost use Rattle.std.specs.Prelude.{◌≡◌, true, ◌≤◌, length};
 ghost use Rattle.superblock.specs.SuperBlock.{label_length, uuid_length};
-ghost use Rattle.answer_words.specs.Answers.{answerLength};
+ghost use Rattle.answer_words.specs.Answers.{answer_length};
 ghost use Rattle.format_words.specs.Words.{formattable, format_words, readable, told_read, fields_words};
 
 use format::FieldsRead;
@@ -13,7 +13,7 @@ use types::{Refusal, Verdict};
 
 fn is_formattable(uuid: usize, room: usize) -> bool
     ensures value { result ≡ formattable uuid room }
-    ensures uuid_value { result ≡ true → (uuid ≡ uuid_length) × (answerLength ≤ room) }
+    ensures uuid_value { result ≡ true → (uuid ≡ uuid_length) × (answer_length ≤ room) }
 {
     (uuid == UUID_BYTES) & (answer_words::ANSWER_WORDS <= room)
 }
@@ -65,7 +65,7 @@ pub fn format(
 
 fn is_readable(label: usize, uuid: usize, room: usize) -> bool
     ensures value { result ≡ readable label uuid room }
-    ensures label_value { result ≡ true → (label ≡ label_length) × (uuid ≡ uuid_length) × (answerLength ≤ room) }
+    ensures label_value { result ≡ true → (label ≡ label_length) × (uuid ≡ uuid_length) × (answer_length ≤ room) }
 {
     (label == LABEL_BYTES) & (uuid == UUID_BYTES) & (answer_words::ANSWER_WORDS <= room)
 }
@@ -86,7 +86,7 @@ fn put_uuid(to: &mut [u8], uuid: [u8; UUID_BYTES])
 
 // Puts what was read into the memory for it, and gives the answer's number.
 fn tell_read(read: FieldsRead, label: &mut [u8], uuid: &mut [u8], a: &mut [u64]) -> u64
-    requires { (length label.old ≡ label_length) × (length uuid.old ≡ uuid_length) × (answerLength ≤ length a.old) }
+    requires { (length label.old ≡ label_length) × (length uuid.old ≡ uuid_length) × (answer_length ≤ length a.old) }
     ensures { told_read read.check read.fields label.old uuid.old a.old ≡ record { number = result; label = label.new; uuid = uuid.new; answer = a.new } }
 {
     let found = read.check;

@@ -4,7 +4,7 @@
 
 ghost use Rattle.std.specs.Prelude.{◌≡◌, true, List, ℕ, ◌≤◌, length};
 ghost use Rattle.mount_words.specs.Words.{mount_length, account_length};
-ghost use Rattle.answer_words.specs.Answers.{answerLength};
+ghost use Rattle.answer_words.specs.Answers.{answer_length};
 ghost use Rattle.mount_call_words.specs.Words.{told_found, find_words, told_shown, show_words, roomy, told_mounted, mount_given};
 
 use types::{FindAnswer, MountOutcome, ShowAnswer};
@@ -12,7 +12,7 @@ use types::{FindAnswer, MountOutcome, ShowAnswer};
 // The words of a mount value, of its account and of an answer are long enough.
 fn is_roomy(w: usize, account: usize, a: usize) -> bool
     ensures value { result ≡ roomy w account a }
-    ensures mount_length_le_w { result ≡ true → (mount_length ≤ w) × (account_length ≤ account) × (answerLength ≤ a) }
+    ensures mount_length_le_w { result ≡ true → (mount_length ≤ w) × (account_length ≤ account) × (answer_length ≤ a) }
 {
     (mount_words::MOUNT_WORDS <= w)
         & (mount_words::ACCOUNT_WORDS <= account)
@@ -20,7 +20,7 @@ fn is_roomy(w: usize, account: usize, a: usize) -> bool
 }
 
 fn tell_mounted(w: &mut [u64], account: &mut [u64], a: &mut [u64], o: MountOutcome) -> u64
-    requires { (mount_length ≤ length w.old) × (account_length ≤ length account.old) × (answerLength ≤ length a.old) }
+    requires { (mount_length ≤ length w.old) × (account_length ≤ length account.old) × (answer_length ≤ length a.old) }
     ensures { (cnv seq : List ℕ) → told_mounted w.old account.old a.old (record { answer = o.answer; mount = o.mount; cnv = cnv; seq = seq }) ≡ record { number = result; mount = w.new; account = account.new; cnv = cnv; seq = seq; answer = a.new } }
 {
     let m = o.mount;
@@ -67,7 +67,7 @@ pub fn mount(
 }
 
 fn tell_found(a: &mut [u64], x: FindAnswer) -> u64
-    requires { answerLength ≤ length a.old }
+    requires { answer_length ≤ length a.old }
     ensures { told_found a.old x ≡ record { number = result; answer = a.new } }
 {
     answer_words::put_values(a, answer_words::find_values(x));
@@ -86,7 +86,7 @@ pub fn find(w: &[u64], account: &[u64], cnv: &[u64], seq: &[u64], name: &[u8], a
 }
 
 fn tell_shown(a: &mut [u64], x: ShowAnswer) -> u64
-    requires { answerLength ≤ length a.old }
+    requires { answer_length ≤ length a.old }
     ensures { told_shown a.old x ≡ record { number = result; answer = a.new } }
 {
     answer_words::put_values(a, answer_words::show_values(x));

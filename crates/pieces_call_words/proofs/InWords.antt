@@ -24,7 +24,7 @@ use Rattle.pieces.specs.Pieces.{Fed, Beginning, begun_with, begun_as, begin_outc
 use Rattle.pieces.proofs.Possible.{possible-told, possible_given}
 use Rattle.receiving.proofs.Bounds.{nothing_received_lem, fed_bounded}
 use Rattle.first_fault.specs.Claims.{started, in_pieces}
-use Rattle.answer_words.specs.Answers.{answerLength, answerWords, written}
+use Rattle.answer_words.specs.Answers.{answer_length, answer_words, written}
 use Rattle.pieces_words.specs.Words.{HoldsPieces}
 use Rattle.pieces_call_words.specs.Words.{roomy, begin_given, readable, AfterPiece, told_piece, piece_given, mount_fits, told_end, end_given}
 use Rattle.pieces_call_words.specs.Claims.{AllBytes, begun_in, given_in, PiecesInWords, EndInWords}
@@ -39,14 +39,14 @@ not_ten (zone small low high) e = omega arith
 not_ten rows e = omega arith
 
 -- an answer's words, in front of others
-answer_front : (a values : List ℕ) → take answerLength (written a (answerWords values)) ≡ answerWords values
-unfolding written answerWords
+answer_front : (a values : List ℕ) → take answer_length (written a (answer_words values)) ≡ answer_words values
+unfolding written answer_words
 answer_front a values = refl
 
-answer_room_lem : (a values : List ℕ) → leb answerLength (length (written a (answerWords values))) ≡ true
-unfolding written answerWords
+answer_room_lem : (a values : List ℕ) → leb answer_length (length (written a (answer_words values))) ≡ true
+unfolding written answer_words
 answer_room_lem a values =
-    let long : answerLength ≤ length (written a (answerWords values)) = omega arith in
+    let long : answer_length ≤ length (written a (answer_words values)) = omega arith in
     le-leb _ _ long
 
 -- THE VALUE STAYS POSSIBLE
@@ -64,7 +64,7 @@ piece_answer p bytes cnv seq can = rw can
 
 -- ONE CALL: the words hold a value that can be held, and the answer has room
 
-module _ (w a : List ℕ) (p : Pieces) (holds : HoldsPieces w p) (can : possible_pieces p ≡ true) (room : leb answerLength (length a) ≡ true) where
+module _ (w a : List ℕ) (p : Pieces) (holds : HoldsPieces w p) (can : possible_pieces p ≡ true) (room : leb answer_length (length a) ≡ true) where
   piece_given_lem : (bytes cnv seq : List ℕ) → piece_given w bytes cnv seq a ≡ told_piece w a (piece_outcome p bytes cnv seq)
   unfolding piece_given readable
   piece_given_lem bytes cnv seq = rw (holds.1, holds.0, room, can)
@@ -80,9 +80,9 @@ record Kept (s : AfterPiece) (f : Fed) : Type 0 where
   bounded : BoundedPieces f.pieces
   possible : possible_pieces f.pieces ≡ true
   answered : f.answer ≡ f.pieces.received.intake.check
-  room : leb answerLength (length s.answer) ≡ true
+  room : leb answer_length (length s.answer) ≡ true
   number : s.number ≡ verdict_number f.answer
-  answer : take answerLength s.answer ≡ answerWords (verdict_values f.answer)
+  answer : take answer_length s.answer ≡ answer_words (verdict_values f.answer)
   pieces : HoldsPieces s.pieces f.pieces
   cnv : s.cnv ≡ f.cnv
   seq : s.seq ≡ f.seq

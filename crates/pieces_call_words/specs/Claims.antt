@@ -3,7 +3,7 @@
 use Rattle.std.specs.Prelude.{ℕ, ◌<◌, ◌≡◌, List, [], ◌∷◌, get_or, take}
 use Rattle.types.specs.declared.Refusal.TheVariants.{Impossible}
 use Rattle.types.specs.Numbers.{refusal_number, verdict_number, verdict_values, mount_number, mount_values}
-use Rattle.answer_words.specs.Answers.{answerLength, answerWords, written}
+use Rattle.answer_words.specs.Answers.{answer_length, answer_words, written}
 use Rattle.mount_words.specs.Words.{mount_words, account_words}
 use Rattle.pieces.specs.Pieces.{Fed, Ended}
 use Rattle.pieces_words.specs.Words.{HoldsPieces}
@@ -26,7 +26,7 @@ given_in s (b ∷ bs) = given_in (piece_given s.pieces b s.cnv s.seq s.answer) b
 -- the number, the answer's words, the words between the calls and both tables, beside what the definitions give; and it isn't 10
 pub record PiecesInWords (s : AfterPiece) (f : Fed) : Type 0 where
   pub number : s.number ≡ verdict_number f.answer
-  pub answer : take answerLength s.answer ≡ answerWords (verdict_values f.answer)
+  pub answer : take answer_length s.answer ≡ answer_words (verdict_values f.answer)
   pub pieces : HoldsPieces s.pieces f.pieces
   pub cnv : s.cnv ≡ f.cnv
   pub seq : s.seq ≡ f.seq
@@ -35,7 +35,7 @@ pub record PiecesInWords (s : AfterPiece) (f : Fed) : Type 0 where
 -- .. and at the end, where the mount value and its account are put into words m and u
 pub record EndInWords (m u : List ℕ) (e : AfterEnd) (o : Ended) : Type 0 where
   pub number : e.number ≡ mount_number o.answer
-  pub answer : take answerLength e.answer ≡ answerWords (mount_values o.answer)
+  pub answer : take answer_length e.answer ≡ answer_words (mount_values o.answer)
   pub pieces : HoldsPieces e.pieces o.pieces
   pub mount : e.mount ≡ written m (mount_words o.mount)
   pub account : e.account ≡ written u (account_words o.mount.account)

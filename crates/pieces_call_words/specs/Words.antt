@@ -1,17 +1,16 @@
 -- What begin, a piece and the end return to a caller in C, and leave in the words that they were lent.
 use Rattle.std.specs.Prelude.{ℕ, List, Bool, cond, ◌&&◌, length, leb}
-use Rattle.types.specs.declared.ZoneFault.TheVariants as fault
 use Rattle.types.specs.declared.Refusal.TheVariants.{Impossible}
 use Rattle.types.specs.Numbers.{refusal_number, verdict_number, verdict_values, mount_number, mount_values}
 use Rattle.pieces.specs.Pieces.{Beginning, begin_outcome, possible_pieces, Fed, piece_outcome, Ended, end_outcome}
-use Rattle.answer_words.specs.Answers.{answerLength, answerWords, written}
+use Rattle.answer_words.specs.Answers.{answer_length, answer_words, written}
 use Rattle.mount_words.specs.Words.{mount_length, mount_words, account_length, account_words}
 use Rattle.pieces_words.specs.Words.{pieces_length, pieces_words, possible_words, pieces_from}
 
 -- ---- begin: the words are only written, so that it is enough that they are long enough
 
 unfoldable pub roomy : ℕ → ℕ → Bool
-roomy w a = leb pieces_length w && leb answerLength a
+roomy w a = leb pieces_length w && leb answer_length a
 
 -- the number that it returns, and the words after it
 pub record AfterBegin : Type 0 where
@@ -24,7 +23,7 @@ told_begun w a o =
     record {
       number = verdict_number o.answer;
       pieces = written w (pieces_words o.pieces);
-      answer = written a (answerWords (verdict_values o.answer));
+      answer = written a (answer_words (verdict_values o.answer));
     }
 
 -- too short they answer 10, with nothing written
@@ -37,7 +36,7 @@ begin_given block superblock options open_limit active_limit w a =
 
 -- the words can hold a mount in pieces, and the answer has room
 unfoldable pub readable : List ℕ → ℕ → Bool
-readable w room = possible_words w && leb answerLength room
+readable w room = possible_words w && leb answer_length room
 
 pub record AfterPiece : Type 0 where
   pub number : ℕ
@@ -53,7 +52,7 @@ told_piece w a o =
       pieces = written w (pieces_words o.pieces);
       cnv = o.cnv;
       seq = o.seq;
-      answer = written a (answerWords (verdict_values o.answer));
+      answer = written a (answer_words (verdict_values o.answer));
     }
 
 -- 10, with nothing written, where that isn't so, and where no report leads to what they hold
@@ -81,7 +80,7 @@ told_end w m u a o =
       pieces = written w (pieces_words o.pieces);
       mount = written m (mount_words o.mount);
       account = written u (account_words o.mount.account);
-      answer = written a (answerWords (mount_values o.answer));
+      answer = written a (answer_words (mount_values o.answer));
     }
 
 unfoldable pub end_given : List ℕ → List ℕ → List ℕ → List ℕ → AfterEnd

@@ -4,7 +4,7 @@
 
 ghost use Rattle.std.specs.Prelude.{◌≡◌, true, ◌≤◌, length};
 ghost use Rattle.types.specs.Numbers.{verdict_number, verdict_values, mount_number, mount_values};
-ghost use Rattle.answer_words.specs.Answers.{answerLength, answerWords, written};
+ghost use Rattle.answer_words.specs.Answers.{answer_length, answer_words, written};
 ghost use Rattle.mount_words.specs.Words.{mount_length, mount_words, account_length, account_words};
 ghost use Rattle.pieces_words.specs.Words.{pieces_length, pieces_words};
 ghost use Rattle.pieces_call_words.specs.Words.{roomy, begin_given, readable, piece_given, mount_fits, end_given};
@@ -16,7 +16,7 @@ use types::Verdict;
 // The words of a mount in pieces and of an answer are long enough.
 fn is_roomy(w: usize, a: usize) -> bool
     ensures value { result ≡ roomy w a }
-    ensures pieces_length_le_w { result ≡ true → (pieces_length ≤ w) × (answerLength ≤ a) }
+    ensures pieces_length_le_w { result ≡ true → (pieces_length ≤ w) × (answer_length ≤ a) }
 {
     (PIECES_WORDS <= w) & (answer_words::ANSWER_WORDS <= a)
 }
@@ -24,7 +24,7 @@ fn is_roomy(w: usize, a: usize) -> bool
 // The words can hold a mount in pieces, and the answer has room.
 fn is_readable(w: &[u64], room: usize) -> bool
     ensures value { result ≡ readable w.now room }
-    ensures pieces_length_in_bounds { result ≡ true → (pieces_length ≤ length w.now) × (answerLength ≤ room) }
+    ensures pieces_length_in_bounds { result ≡ true → (pieces_length ≤ length w.now) × (answer_length ≤ room) }
 {
     pieces_words::is_pieces(w) & (answer_words::ANSWER_WORDS <= room)
 }
@@ -39,16 +39,16 @@ fn mount_fits(m: usize, account: usize) -> bool
 
 // Puts what begin or a piece answers into its words, and gives its number.
 fn tell(a: &mut [u64], x: Verdict) -> u64
-    requires { answerLength ≤ length a.old }
-    ensures { (verdict_number x ≡ result) × (written a.old (answerWords (verdict_values x)) ≡ a.new) }
+    requires { answer_length ≤ length a.old }
+    ensures { (verdict_number x ≡ result) × (written a.old (answer_words (verdict_values x)) ≡ a.new) }
 {
     answer_words::put_values(a, pieces_words::verdict_values(x));
     pieces_words::verdict_number(x)
 }
 
 fn tell_pieces(w: &mut [u64], a: &mut [u64], o: PiecesOutcome) -> u64
-    requires { (pieces_length ≤ length w.old) × (answerLength ≤ length a.old) }
-    ensures { (verdict_number o.answer ≡ result) × (written w.old (pieces_words o.pieces) ≡ w.new) × (written a.old (answerWords (verdict_values o.answer)) ≡ a.new) }
+    requires { (pieces_length ≤ length w.old) × (answer_length ≤ length a.old) }
+    ensures { (verdict_number o.answer ≡ result) × (written w.old (pieces_words o.pieces) ≡ w.new) × (written a.old (answer_words (verdict_values o.answer)) ≡ a.new) }
 {
     let p = o.pieces;
     let x = o.answer;
@@ -63,8 +63,8 @@ fn tell_ended(
     a: &mut [u64],
     o: EndOutcome,
 ) -> u64
-    requires { (pieces_length ≤ length w.old) × (mount_length ≤ length m.old) × (account_length ≤ length account.old) × (answerLength ≤ length a.old) }
-    ensures { (mount_number o.answer ≡ result) × (written w.old (pieces_words o.pieces) ≡ w.new) × (written m.old (mount_words o.mount) ≡ m.new) × (written account.old (account_words o.mount.account) ≡ account.new) × (written a.old (answerWords (mount_values o.answer)) ≡ a.new) }
+    requires { (pieces_length ≤ length w.old) × (mount_length ≤ length m.old) × (account_length ≤ length account.old) × (answer_length ≤ length a.old) }
+    ensures { (mount_number o.answer ≡ result) × (written w.old (pieces_words o.pieces) ≡ w.new) × (written m.old (mount_words o.mount) ≡ m.new) × (written account.old (account_words o.mount.account) ≡ account.new) × (written a.old (answer_words (mount_values o.answer)) ≡ a.new) }
 {
     let p = o.pieces;
     let mount = o.mount;

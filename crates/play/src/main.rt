@@ -2,7 +2,7 @@
 // What is read is played by `tape_pieces`, whose functions say exactly what they do; here is only what reads and writes.
 #![tactic(auto)]
 
-ghost use Rattle.std.specs.Prelude.{◌≡◌, true, false, ◌≤◌, ◌<◌, length, take, IfOk};
+ghost use Rattle.std.specs.Prelude.{◌≡◌, true, false, ◌≤◌, ◌<◌, length, take, IfErr, IfOk};
 ghost use Rattle.tape_lines.specs.Facts.{line_room};
 ghost use Rattle.tape_pieces.specs.Pieces.{longest_opening};
 ghost use Rattle.tape_pieces.specs.Facts.{Continues, holding_of};
@@ -45,12 +45,12 @@ pub enum Failure {
 }
 
 // Reads once, behind the first `have` bytes, which stay as they are.
-fn read_once<R: Read>(reader: &mut R, b: &mut [u8], have: usize) -> Result<Input, Failure>
+fn read_once<R: Read>(reader: &mut R, b: &mut [u8], have: usize) -> io::Result<Input>
     requires { have ≤ length b.old }
     ensures have_le_have { IfOk result (λ input. (have ≤ input.have) × (input.have ≤ length b.old) × (input.ended ≡ false → have < input.have)) }
     ensures b_unchanged { take have b.new ≡ take have b.old }
 {
-    let n = reader.read(&mut b[have..]).map_err(Failure::Reading)?;
+    let n = reader.read(&mut b[have..])?;
     Ok(Input {
         have: have + n,
         ended: n == 0,
@@ -59,7 +59,7 @@ fn read_once<R: Read>(reader: &mut R, b: &mut [u8], have: usize) -> Result<Input
 
 // Reads until `b` is full or the input has ended, and nothing where it had; the first `have` bytes stay as they are. A read that isn't the last
 // brings a byte at least, so that this ends.
-fn fill<R: Read>(reader: &mut R, b: &mut [u8], have: usize, ended: bool) -> Result<Input, Failure>
+fn fill<R: Read>(reader: &mut R, b: &mut [u8], have: usize, ended: bool) -> io::Result<Input>
     requires { have ≤ length b.old }
     ensures have_le_have { IfOk result (λ input. (have ≤ input.have) × (input.have ≤ length b.old) × (input.ended ≡ false → input.have ≡ length b.old) × (ended ≡ true → (input.have ≡ have) × (input.ended ≡ true))) }
     ensures b_unchanged { take have b.new ≡ take have b.old }
@@ -72,13 +72,14 @@ fn fill<R: Read>(reader: &mut R, b: &mut [u8], have: usize, ended: bool) -> Resu
 }
 
 // Writes the lines before `end`.
-fn write_lines<W: Write>(writer: &mut W, out: &[u8], end: usize) -> Result<(), Failure>
+fn write_lines<W: Write>(writer: &mut W, out: &[u8], end: usize) -> io::Result<()>
     requires { end ≤ length out.now }
 {
-    writer.write_all(&out[..end]).map_err(Failure::Writing)
+    writer.write_all(&out[..end])
 }
 
-// Reads behind what is left, and plays on: whatever the piece is that was read, what is written and kept is what `tape_pieces` defines for it.
+// Reads behind what is left, and plays on: whatever the piece is that was read, what is written and kept is what `tape_pieces` defines for it. Where
+// it can't be read, all stays but what is behind.
 fn read_on<R: Read>(
     reader: &mut R,
     kept: Kept,
@@ -87,10 +88,11 @@ fn read_on<R: Read>(
     cnv: &mut [u64],
     seq: &mut [u64],
     out: &mut [u8],
-) -> Result<Playing, Failure>
+) -> io::Result<Playing>
     requires { kept.left ≤ length b.old }
     ensures left_in_bounds { IfOk result (λ p. p.kept.left ≤ length b.old) }
     ensures to_in_bounds { IfOk result (λ p. p.kept.turned.to ≤ length out.old) }
+    ensures stays { IfErr result (λ e. (take kept.left b.new ≡ take kept.left b.old) × (cnv.new ≡ cnv.old) × (seq.new ≡ seq.old) × (out.new ≡ out.old)) }
     ensures continues { IfOk result (λ p. Continues (length out.old) (holding_of b.old ended kept cnv.old seq.old) p.ended b.new out.old out.new p.kept cnv.new seq.new) }
 {
     let input = fill(reader, b, kept.left, ended)?;
@@ -119,11 +121,11 @@ fn play_on<R: Read, W: Write>(
     for _ in 0..u64::MAX {
         let kept = p.kept;
         let turned = kept.turned;
-        write_lines(writer, &out[..], turned.to)?;
+        write_lines(writer, &out[..], turned.to).map_err(Failure::Writing)?;
         if tape_pieces::is_over(turned.more, p.ended, kept.left) {
             break;
         }
-        p = read_on(reader, kept, p.ended, b, cnv, seq, out)?;
+        p = read_on(reader, kept, p.ended, b, cnv, seq, out).map_err(Failure::Reading)?;
     }
     Ok(())
 }
@@ -139,7 +141,7 @@ fn play_tape<R: Read, W: Write>(
 ) -> Result<(), Failure>
     requires { (longest_opening ≤ length b.old) × (line_room ≤ length out.old) }
 {
-    let input = fill(reader, b, 0, false)?;
+    let input = fill(reader, b, 0, false).map_err(Failure::Reading)?;
     let kept = tape_pieces::first_part(b, input.have, input.ended, cnv, seq, out);
     let p = Playing {
         kept,

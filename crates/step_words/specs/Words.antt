@@ -5,7 +5,7 @@ use Rattle.types.specs.Numbers.{refusal_number, answer_number, answer_values}
 -- handed on, as the contracts of `capi` speak of these
 pub use Rattle.completion.specs.Completions.{Completion, completion_of}
 use Rattle.engine.specs.Engine.{Input, Step, step}
-use Rattle.answer_words.specs.Answers.{answerLength, answerWords, written}
+use Rattle.answer_words.specs.Answers.{answer_length, answer_words, written}
 use Rattle.mount_words.specs.Words.{with_state, with_counts, possible, mount_from}
 
 -- ---- what a function that is lent a mount's words, its account's, both tables and an answer's words gives: the number that it returns, and these after
@@ -27,7 +27,7 @@ unwritten w u cnv seq a = record { number = refusal_number Impossible; mount = w
 
 -- the words hold a mount value with its account, and the answer has room
 unfoldable pub usable : List ℕ → List ℕ → ℕ → Bool
-usable w u room = possible w u && leb answerLength room
+usable w u room = possible w u && leb answer_length room
 
 -- a step of the engine, told in words
 abbrev pub told : List ℕ → List ℕ → List ℕ → Step → Changed
@@ -38,7 +38,7 @@ told w u a t =
       account = with_counts u t.state.mount.account;
       cnv = t.state.cnv;
       seq = t.state.seq;
-      answer = written a (answerWords (answer_values t.reply));
+      answer = written a (answer_words (answer_values t.reply));
     }
 
 -- a call or a completion, with the mount's words, its account's, both tables and the answer's words

@@ -6,7 +6,7 @@ ghost use Rattle.std.specs.Prelude.{◌≡◌, true, ◌≤◌, length};
 ghost use Rattle.types.specs.Numbers.{answer_number, answer_values};
 ghost use Rattle.completion.specs.Completions.{completion_by};
 ghost use Rattle.mount_words.specs.Words.{mount_length, account_length};
-ghost use Rattle.answer_words.specs.Answers.{answerLength, answerWords, written};
+ghost use Rattle.answer_words.specs.Answers.{answer_length, answer_words, written};
 ghost use Rattle.engine.specs.Engine.{Input};
 ghost use Rattle.step_words.specs.Words.{usable, step_words};
 
@@ -18,7 +18,7 @@ pub const IMPOSSIBLE: u64 = 10;
 // The words hold a mount value with its account, and the answer has room.
 pub fn is_usable(w: &[u64], account: &[u64], room: usize) -> bool
     ensures value { result ≡ usable w.now account.now room }
-    ensures mount_length_in_bounds { result ≡ true → (mount_length ≤ length w.now) × (account_length ≤ length account.now) × (answerLength ≤ room) }
+    ensures mount_length_in_bounds { result ≡ true → (mount_length ≤ length w.now) × (account_length ≤ length account.now) × (answer_length ≤ room) }
 {
     mount_words::is_possible(w, account) & (answer_words::ANSWER_WORDS <= room)
 }
@@ -26,8 +26,8 @@ pub fn is_usable(w: &[u64], account: &[u64], room: usize) -> bool
 // Puts an answer into its words, and gives its number. The mount's words are put by the callers: with both in one function the whole outcome
 // would be handed over in memory.
 fn tell(a: &mut [u64], x: Answer) -> u64
-    requires { answerLength ≤ length a.old }
-    ensures { (answer_number x ≡ result) × (written a.old (answerWords (answer_values x)) ≡ a.new) }
+    requires { answer_length ≤ length a.old }
+    ensures { (answer_number x ≡ result) × (written a.old (answer_words (answer_values x)) ≡ a.new) }
 {
     answer_words::put_values(a, answer_words::answer_values(x));
     types::answers::answer_number(x)

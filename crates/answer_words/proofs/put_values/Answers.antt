@@ -1,6 +1,6 @@
 use native.Mathlib.Omega.{arith}
 use lib.ListN.{length-set}
-use Rattle.answer_words.specs.Answers.{valueWords}
+use Rattle.answer_words.specs.Answers.{value_words}
 use Rattle.answer_words.proofs.Front.{put_front}
 use Rattle.answer_words.proofs.put_values.Goals as goal
 
@@ -20,4 +20,4 @@ pub bounds-out-5 : goal.bounds-out-5
 bounds-out-5 c = simp length-set (omega arith)
 
 pub returns : goal.returns
-returns c = put_front c.args.out.now (valueWords c.args.v) (omega arith)
+returns c = put_front c.args.out.now (value_words c.args.v) (omega arith)

@@ -1,5 +1,5 @@
 use mathlib.Core.Path.{sym, ◌∙◌}
-use Rattle.answer_words.specs.Answers.{answerWords}
+use Rattle.answer_words.specs.Answers.{answer_words}
 use Rattle.format_words.specs.Words.{format_words}
 use Rattle.format_words.proofs.format.Goals as goal
 
@@ -15,7 +15,7 @@ put_values-requires c =
     (c.is_formattable.ensures.uuid_value (c.if-not-is_formattable.false)).1
 
 pub returns : goal.returns
-unfolding format_words answerWords
+unfolding format_words answer_words
 returns c =
     rw (
       sym c.is_formattable.ensures.value ∙ c.if-not-is_formattable.false,

@@ -1,8 +1,8 @@
-use Rattle.answer_words.specs.Answers.{answerWords}
+use Rattle.answer_words.specs.Answers.{answer_words}
 use Rattle.format_words.proofs.tell_read.Goals as goal
 
 pub returns-in-Refused : goal.returns-in-Refused
-unfolding answerWords
+unfolding answer_words
 returns-in-Refused c =
     rw (
       c.in-Refused.is,
@@ -12,7 +12,7 @@ returns-in-Refused c =
     )
 
 pub returns-in-Passed : goal.returns-in-Passed
-unfolding answerWords
+unfolding answer_words
 returns-in-Passed c =
     rw (
       c.in-Passed.is,

@@ -1,7 +1,5 @@
 use mathlib.Core.Path.{◌∙◌, sym, ap}
-use borrow.Author.Tests.{not-true, not-false}
 use Rattle.mount_call_words.specs.Words.{told_found, find_words}
-use borrow.Author.Rules.{rules}
 use Rattle.mount_call_words.proofs.find.Goals as goal
 
 pub returns-then-not-is_usable : goal.returns-then-not-is_usable

@@ -1,8 +1,6 @@
 use mathlib.Core.Path.{◌∙◌, sym}
-use borrow.Author.Tests.{not-true, not-false}
 use Rattle.mount_call_words.specs.Words.{mount_given}
 use Rattle.mount_call_words.proofs.Mounted.{mounted_so}
-use borrow.Author.Rules.{rules}
 use Rattle.mount_call_words.proofs.mount.Goals as goal
 
 pub returns-then-not-is_roomy : goal.returns-then-not-is_roomy

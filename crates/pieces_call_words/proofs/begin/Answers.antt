@@ -1,8 +1,6 @@
 use mathlib.Core.Path.{◌∙◌, sym}
-use borrow.Author.Tests.{not-true, not-false}
 use Rattle.pieces_call_words.specs.Words.{begin_given}
 use Rattle.pieces_call_words.proofs.Told.{begin_told}
-use borrow.Author.Rules.{rules}
 use Rattle.pieces_call_words.proofs.begin.Goals as goal
 
 pub returns-then-not-is_roomy : goal.returns-then-not-is_roomy

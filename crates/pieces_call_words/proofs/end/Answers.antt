@@ -1,8 +1,6 @@
 use mathlib.Core.Path.{◌∙◌, sym}
-use borrow.Author.Tests.{not-true, not-false}
 use Rattle.types.proofs.Tests.{and_left, and_right}
 use Rattle.pieces_call_words.proofs.Told.{end_unreadable, end_impossible, end_told}
-use borrow.Author.Rules.{rules}
 use Rattle.pieces_call_words.proofs.end.Goals as goal
 
 pub returns-then-not-mount_fits-is_readable : goal.returns-then-not-mount_fits-is_readable

@@ -1,7 +1,6 @@
 use borrow.Author.Tests.{leb-true}
 use Rattle.types.proofs.Tests.{and_left, and_right}
 use Rattle.pieces_call_words.specs.Words.{readable}
-use borrow.Author.Rules.{rules}
 use Rattle.pieces_call_words.proofs.is_readable.Goals as goal
 
 pub returns : goal.returns

@@ -1,7 +1,5 @@
 use mathlib.Core.Path.{◌∙◌, sym}
-use borrow.Author.Tests.{not-true, not-false}
 use Rattle.pieces_call_words.proofs.Told.{piece_unreadable, piece_impossible, piece_told}
-use borrow.Author.Rules.{rules}
 use Rattle.pieces_call_words.proofs.piece.Goals as goal
 
 pub returns-then-not-is_readable : goal.returns-then-not-is_readable

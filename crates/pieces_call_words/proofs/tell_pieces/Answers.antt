@@ -1,5 +1,4 @@
 use mathlib.Core.Path.{sym}
-use borrow.Author.Rules.{rules}
 use Rattle.pieces_call_words.proofs.tell_pieces.Goals as goal
 
 pub returns : goal.returns

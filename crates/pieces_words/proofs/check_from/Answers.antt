@@ -1,6 +1,5 @@
 use borrow.Author.Tests.{eq-eqb, ne_eqb}
 use Rattle.pieces_words.specs.Words.{check_from}
-use borrow.Author.Rules.{rules}
 use Rattle.pieces_words.proofs.check_from.Goals as goal
 
 pub returns-then-number-eq0 : goal.returns-then-number-eq0

@@ -1,4 +1,3 @@
-use borrow.Author.Rules.{rules}
 use Rattle.pieces_words.proofs.intake_from.Goals as goal
 
 pub returns : goal.returns

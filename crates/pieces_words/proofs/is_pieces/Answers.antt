@@ -5,7 +5,6 @@ use mathlib.Core.Bool.{false≢true}
 use native.Mathlib.Omega.{arith}
 use borrow.Author.Tests.{le-leb, lt-leb}
 use Rattle.pieces_words.specs.Words.{possible_words}
-use borrow.Author.Rules.{rules}
 use Rattle.pieces_words.proofs.is_pieces.Goals as goal
 
 pub returns-then-w-lt-PIECES_WORDS : goal.returns-then-w-lt-PIECES_WORDS

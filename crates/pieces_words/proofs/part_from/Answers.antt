@@ -1,5 +1,4 @@
 use Rattle.pieces_words.proofs.Parts.{part_put}
-use borrow.Author.Rules.{rules}
 use Rattle.pieces_words.proofs.part_from.Goals as goal
 
 pub returns : goal.returns

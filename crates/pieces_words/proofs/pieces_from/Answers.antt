@@ -2,7 +2,6 @@ use mathlib.Core.Path.{◌∙◌, ap}
 use Rattle.mount_words.specs.Words.{mount_from}
 use Rattle.pieces_words.proofs.Parts.{rest_all}
 use Rattle.pieces_words.specs.Words.{pieces_from}
-use borrow.Author.Rules.{rules}
 use Rattle.pieces_words.proofs.pieces_from.Goals as goal
 
 pub returns : goal.returns

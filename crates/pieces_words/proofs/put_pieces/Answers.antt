@@ -1,5 +1,4 @@
 use Rattle.pieces_words.proofs.Parts.{pieces_put}
-use borrow.Author.Rules.{rules}
 use Rattle.pieces_words.proofs.put_pieces.Goals as goal
 
 pub returns : goal.returns

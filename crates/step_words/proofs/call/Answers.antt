@@ -1,8 +1,6 @@
 use mathlib.Core.Path.{◌∙◌, sym, ap}
-use borrow.Author.Tests.{not-true, not-false}
 use Rattle.step_words.specs.Words.{told, step_words}
 use Rattle.step_words.proofs.Told.{told_so}
-use borrow.Author.Rules.{rules}
 use Rattle.step_words.proofs.call.Goals as goal
 
 pub returns-then-not-is_usable : goal.returns-then-not-is_usable

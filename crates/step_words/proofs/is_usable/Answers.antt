@@ -1,7 +1,6 @@
 use borrow.Author.Tests.{leb-true}
 use Rattle.types.proofs.Tests.{and_left, and_right}
 use Rattle.step_words.specs.Words.{usable}
-use borrow.Author.Rules.{rules}
 use Rattle.step_words.proofs.is_usable.Goals as goal
 
 pub returns : goal.returns
