@@ -1,5 +1,6 @@
 -- Laws of the account: what a changed row does to the true counts, and what these say of a row.
 -- Assumes nothing.
+use Rattle.std.specs.Prelude.{Ok}
 use Prim.Native.Nat.{ℕ, zero, suc, ◌+◌, ◌^◌, ◌≤◌, ◌<◌}
 use native.Mathlib.Omega.{arith}
 use native.Mathlib.Decide.{ℕ_discrete}
@@ -19,7 +20,6 @@ use Rattle.types.specs.declared.FileKind.TheVariants.{Conventional, Sequential}
 use Rattle.types.specs.Blocks.{most_files}
 use Rattle.types.specs.Codes.{flag_code}
 use Rattle.types.proofs.Tests.{leb-same, both, and_left, and_right, means_in}
-use Rattle.table.specs.declared.Slot.TheVariants as slot
 use Rattle.types.specs.declared.Outstanding.{Outstanding}
 use Rattle.table.specs.Rows.{rows_lent, row_at, set_row, with_outstanding}
 use Rattle.table.proofs.Laws.{row_at-same, row_at_other}
@@ -63,7 +63,7 @@ module _ (test : Row → Bool) where
   past t i r (suc n) h = let d : i ≢ n = (λ q. omega arith) in rw (past t i r n (omega arith), row_at_other t i n r d)
 
   -- the row of number i is changed, and no other
-  pub count_set : (t : List ℕ) (i : ℕ) (r r' : Row) (n : ℕ) → i < n → i < rows_lent (length t) → row_at t i ≡ slot.Good r
+  pub count_set : (t : List ℕ) (i : ℕ) (r r' : Row) (n : ℕ) → i < n → i < rows_lent (length t) → row_at t i ≡ Ok r
       → count_in test (set_row t i r') n + flag_code (test r) ≡ count_in test t n + flag_code (test r')
   unfolding count_in
   count_set t i r r' zero h l e = absurd (omega arith)
@@ -87,7 +87,7 @@ module _ (test : Row → Bool) where
   corrects false true c c' h = omega arith
   corrects false false c c' h = omega arith
 
-  pub count_corrected : (t : List ℕ) (i : ℕ) (r r' : Row) (n : ℕ) → i < n → i < rows_lent (length t) → row_at t i ≡ slot.Good r
+  pub count_corrected : (t : List ℕ) (i : ℕ) (r r' : Row) (n : ℕ) → i < n → i < rows_lent (length t) → row_at t i ≡ Ok r
       → count_after (count_in test t n) (test r) (test r') ≡ count_in test (set_row t i r') n
   count_corrected t i r r' n h l e = corrects (test r) (test r') (count_in test t n) (count_in test (set_row t i r') n) (count_set t i r r' n h l e)
 
@@ -101,7 +101,7 @@ module _ (m : Mount) (seq : List ℕ) (w : TrueCounts m seq) where
       both (le-leb m.account.opened n (omega (arith, w.opened, count_most is_open seq n)))
       (le-leb m.account.active n (omega (arith, w.active, count_most (is_active m.volume.explicit) seq n)))
 
-  module _ (i : ℕ) (r : Row) (file : i < m.volume.sequential) (row : row_at seq i ≡ slot.Good r) where
+  module _ (i : ℕ) (r : Row) (file : i < m.volume.sequential) (row : row_at seq i ≡ Ok r) where
     -- counts each of its rows
     pub true_counts : counted m Sequential r ≡ true
     unfolding counted
@@ -179,7 +179,7 @@ uncounted m Conventional r r' e f = refl
 uncounted m Sequential r r' e f =
     rw (same_count m.account.opened (is_open r) (is_open r') e, same_count m.account.active (is_active m.volume.explicit r) (is_active m.volume.explicit r') f)
 
-module _ (m : Mount) (seq : List ℕ) (w : TrueCounts m seq) (i : ℕ) (r : Row) (file : i < m.volume.sequential) (row : row_at seq i ≡ slot.Good r) (r' : Row) where
+module _ (m : Mount) (seq : List ℕ) (w : TrueCounts m seq) (i : ℕ) (r : Row) (file : i < m.volume.sequential) (row : row_at seq i ≡ Ok r) (r' : Row) where
   pub held_stays : (o : Outstanding) → i < rows_lent (length seq) → TrueCounts (accounted m Sequential r r') (set_row seq i (with_outstanding r' o))
   held_stays o lent = subst (λ n. TrueCounts n (set_row seq i (with_outstanding r' o))) (account_held m Sequential r r' o) (true_stays m seq w i r file row (with_outstanding r' o) lent)
 

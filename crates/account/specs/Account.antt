@@ -1,5 +1,5 @@
 -- 02, K1: which files are open and which active, the running account of both, and its limits.
-use Rattle.std.specs.Prelude.{ℕ, ◌+◌, ◌-◌, Bool, true, false, not, ◌&&◌, ◌||◌, eqb, leb, ltb}
+use Rattle.std.specs.Prelude.{ℕ, ◌+◌, ◌-◌, Bool, true, false, not, ◌&&◌, ◌||◌, eqb, leb, ltb, Ok}
 use Rattle.types.specs.declared.Account.{Account}
 use Rattle.types.specs.declared.Volume.{Volume}
 use Rattle.types.specs.declared.Mount.{Mount}
@@ -7,8 +7,7 @@ use Rattle.types.specs.declared.Row.{Row}
 use Rattle.types.specs.declared.FileKind.{FileKind}
 use Rattle.types.specs.declared.FileKind.TheVariants.{Conventional, Sequential}
 use Rattle.types.specs.declared.Refusal.TheVariants.{OpenLimit, ActiveLimit}
-use Rattle.types.specs.declared.Verdict.{Verdict}
-use Rattle.types.specs.declared.Verdict.TheVariants.{Passed}
+use Rattle.types.specs.Answers.{Verdict}
 use Rattle.types.specs.Mounts.{with_account}
 use Rattle.types.specs.Predicates.{means, is_healthy, is_write}
 use Rattle.types.specs.Verdicts.{refuse}
@@ -70,7 +69,7 @@ unfoldable pub limit_check : Bool → Account → Row → Row → Verdict
 limit_check explicit a before after =
     refuse (explicit && (raises (is_open before) (is_open after) && exceeds a.opened a.open_limit)) OpenLimit
     (refuse (explicit && (raises (is_active explicit before) (is_active explicit after) && exceeds a.active a.active_limit)) ActiveLimit
-    Passed)
+    (Ok tt))
 
 -- ---- "10 also covers .."
 

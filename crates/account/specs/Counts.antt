@@ -1,17 +1,16 @@
 -- The true counts: how many rows of a table are open, and how many active.
-use Rattle.std.specs.Prelude.{ℕ, zero, suc, ◌+◌, Bool, false, ◌≡◌, List}
+use Rattle.std.specs.Prelude.{ℕ, zero, suc, ◌+◌, Bool, false, ◌≡◌, List, Ok, Err}
 use Rattle.types.specs.declared.Mount.{Mount}
 use Rattle.types.specs.declared.Row.{Row}
 use Rattle.types.specs.Codes.{flag_code}
-use Rattle.table.specs.declared.Slot.{Slot}
-use Rattle.table.specs.declared.Slot.TheVariants.{Good, Impossible}
+use Rattle.table.specs.Rows.{Slot}
 use Rattle.table.specs.Rows.{row_at}
 use Rattle.account.specs.Account.{is_open, is_active}
 
 -- a slot that is a row, and passes
 abbrev pub passes : (Row → Bool) → Slot → Bool
-passes test (Good r) = test r
-passes test (Impossible o) = false
+passes test (Ok r) = test r
+passes test (Err o) = false
 
 -- how many of the first rows of a table pass
 unfoldable pub count_in : (Row → Bool) → List ℕ → ℕ → ℕ

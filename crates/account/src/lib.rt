@@ -10,9 +10,8 @@ ghost use Rattle.account.specs.Account.{is_open, is_full, is_empty, is_active, c
 ghost use Rattle.account.specs.Counts.{passes, count_in};
 ghost use Rattle.account.specs.Facts.{Room};
 
-use table::Slot;
 use types::answers::refuse;
-use types::{Account, FileKind, Mount, Refusal, Row, Verdict, Volume, predicates};
+use types::{Account, FileKind, Mount, Outstanding, Refusal, Row, Volume, predicates};
 
 // The file is open for writing.
 pub fn is_open(row: Row) -> bool
@@ -34,13 +33,12 @@ pub fn is_empty(row: Row) -> bool
 }
 
 // The file is active. `explicit` is the option `explicit-open`.
+#[tactic(auto, unfolding(crate::specs::Account::is_active))]
 pub fn is_active(explicit: bool, row: Row) -> bool
     ensures { result ≡ is_active explicit row }
 {
-    let c = row.condition;
-    let a = row.access;
-    predicates::is_healthy(c)
-        & predicates::is_write(a)
+    predicates::is_healthy(row.condition)
+        & predicates::is_write(row.access)
         & !is_full(row)
         & (explicit & is_open(row) | !is_empty(row))
 }
@@ -49,10 +47,11 @@ pub fn is_active(explicit: bool, row: Row) -> bool
 fn one_less(count: u32) -> u32
     ensures { result ≡ count - 1 }
 {
-    if 0 < count { count - 1 } else { 0 }
+    count.saturating_sub(1)
 }
 
 // A count, once a file that it counted or didn't is one that it counts or doesn't.
+// It stays by both flags: of a count of 0 one less is 0 (`count_after` of the specs), so they can't be summed.
 fn count_after(count: u32, before: bool, after: bool) -> u32
     requires { count ≤ most_files }
     ensures { result ≡ count_after count before after }
@@ -65,21 +64,19 @@ fn count_after(count: u32, before: bool, after: bool) -> u32
 }
 
 // The account, once the row of a sequential file has changed.
+#[tactic(auto, unfolding(crate::specs::Account::corrected))]
 fn corrected(explicit: bool, account: Account, before: Row, after: Row) -> Account
     requires { Room account }
     ensures { result ≡ corrected explicit account before after }
 {
-    let opened = count_after(account.opened, is_open(before), is_open(after));
-    let active = count_after(
-        account.active,
-        is_active(explicit, before),
-        is_active(explicit, after),
-    );
     Account {
-        opened,
-        active,
-        open_limit: account.open_limit,
-        active_limit: account.active_limit,
+        opened: count_after(account.opened, is_open(before), is_open(after)),
+        active: count_after(
+            account.active,
+            is_active(explicit, before),
+            is_active(explicit, after),
+        ),
+        ..account
     }
 }
 
@@ -91,15 +88,14 @@ pub fn accounted(m: Mount, kind: FileKind, before: Row, after: Row) -> Mount
     match kind {
         FileKind::Conventional => m,
         FileKind::Sequential => {
-            let v = m.volume;
-            let account = m.account;
-            let changed = corrected(v.explicit, account, before, after);
+            let changed = corrected(m.volume.explicit, m.account, before, after);
             types::mounts::with_account(m, changed)
         }
     }
 }
 
 // One more would be above the limit, if there is one.
+// A limit stays a number that is 0 for none: `exceeds` of the specs and the words of C say so.
 fn exceeds(count: u32, limit: u32) -> bool
     ensures { result ≡ exceeds count limit }
 {
@@ -107,25 +103,20 @@ fn exceeds(count: u32, limit: u32) -> bool
 }
 
 // Checks 11 and 12 of an open that changes a row so.
-pub fn limit_check(explicit: bool, account: Account, before: Row, after: Row) -> Verdict
+#[tactic(auto, unfolding(types::specs::Verdicts::refuse, crate::specs::Account::limit_check))]
+pub fn limit_check(explicit: bool, account: Account, before: Row, after: Row) -> Result<(), Refusal>
     ensures { result ≡ limit_check explicit account before after }
 {
     let opens = !is_open(before) & is_open(after);
     let activates = !is_active(explicit, before) & is_active(explicit, after);
     let open = exceeds(account.opened, account.open_limit);
     let active = exceeds(account.active, account.active_limit);
-    refuse(
-        explicit & (opens & open),
-        Refusal::OpenLimit,
-        refuse(
-            explicit & (activates & active),
-            Refusal::ActiveLimit,
-            Verdict::Passed,
-        ),
-    )
+    refuse(explicit & (opens & open), Refusal::OpenLimit)?;
+    refuse(explicit & (activates & active), Refusal::ActiveLimit)
 }
 
 // Check 10, of an account beside the number of sequential files.
+#[tactic(auto, unfolding(crate::specs::Account::account_fits))]
 pub fn account_fits(v: Volume, account: Account) -> bool
     ensures { result ≡ account_fits v account }
 {
@@ -133,35 +124,25 @@ pub fn account_fits(v: Volume, account: Account) -> bool
 }
 
 // Check 10, of a named row beside the account: neither count is 0 where the row counts in it.
+#[tactic(auto, unfolding(crate::specs::Account::counted))]
 pub fn is_counted(m: Mount, kind: FileKind, row: Row) -> bool
     ensures { result ≡ counted m kind row }
 {
     match kind {
         FileKind::Conventional => true,
         FileKind::Sequential => {
-            let v = m.volume;
-            let account = m.account;
-            (!is_open(row) | (0 < account.opened))
-                & (!is_active(v.explicit, row) | (0 < account.active))
+            (!is_open(row) | (0 < m.account.opened))
+                & (!is_active(m.volume.explicit, row) | (0 < m.account.active))
         }
     }
 }
 
-fn active_slot(explicit: bool, slot: Slot) -> bool
-    ensures { result ≡ passes (is_active explicit) slot }
-{
-    match slot {
-        Slot::Good(row) => is_active(explicit, row),
-        Slot::Impossible(_) => false,
-    }
-}
-
 // 1 for an active one.
-fn active_flag(explicit: bool, slot: Slot) -> u32
+fn active_flag(explicit: bool, slot: Result<Row, Outstanding>) -> u32
     ensures value { result ≡ flag_code (passes (is_active explicit) slot) }
     ensures upper_bound { result ≤ 1 }
 {
-    if active_slot(explicit, slot) { 1 } else { 0 }
+    u32::from(slot.is_ok_and(|row| is_active(explicit, row)))
 }
 
 // How many of the first rows of a table are active.
@@ -170,10 +151,8 @@ pub fn count_active(explicit: bool, t: &[u64], files: u32) -> u32
     ensures { result ≡ count_in (is_active explicit) t.now files }
 {
     let mut count = 0;
-    let mut i = 0;
-    while i < files {
+    for i in 0..files {
         count += active_flag(explicit, table::row_at(t, i as usize));
-        i += 1;
     }
     count
 }

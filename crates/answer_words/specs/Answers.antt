@@ -6,21 +6,20 @@ use Rattle.answer_words.specs.declared.AnswerWords.{AnswerWords}
 abbrev pub answer_length : ℕ
 answer_length = 7
 
+-- the most values of an answer
+abbrev pub most_values : ℕ
+most_values = 6
+
 -- how many values there are, and up to six of them; a value that there isn't is 0
 abbrev pub values_of : List ℕ → AnswerWords
 values_of vs =
     record {
       count = length vs;
-      first = get_or vs 0 0;
-      second = get_or vs 1 0;
-      third = get_or vs 2 0;
-      fourth = get_or vs 3 0;
-      fifth = get_or vs 4 0;
-      sixth = get_or vs 5 0;
+      values = get_or vs 0 0 ∷ get_or vs 1 0 ∷ get_or vs 2 0 ∷ get_or vs 3 0 ∷ get_or vs 4 0 ∷ get_or vs 5 0 ∷ [];
     }
 
 abbrev pub value_words : AnswerWords → List ℕ
-value_words v = v.count ∷ v.first ∷ v.second ∷ v.third ∷ v.fourth ∷ v.fifth ∷ v.sixth ∷ []
+value_words v = v.count ∷ v.values
 
 -- an answer's values as words
 unfoldable pub answer_words : List ℕ → List ℕ

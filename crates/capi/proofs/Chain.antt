@@ -1,5 +1,6 @@
 -- The words of a caller in C hold the engine's mount value, from a mount on.
 -- Assumes nothing.
+use Rattle.std.specs.Prelude.{Ok, Err}
 use Prim.Native.Nat.{ℕ, ◌≤◌, ◌<◌, ◌^◌}
 use native.Mathlib.Omega.{arith}
 use mathlib.Core.Bool.{Bool, true, false}
@@ -8,8 +9,7 @@ use mathlib.Core.Logic.{◌≢◌}
 use mathlib.Core.Path.{◌≡◌, refl, ap, ◌∙◌, sym, subst}
 use lib.ListN.{length, drop, length-append}
 use borrow.Author.Tests.{le-leb}
-use Rattle.types.specs.declared.MountAnswer.{MountAnswer}
-use Rattle.types.specs.declared.MountAnswer.TheVariants.{Refused, Mounted}
+use Rattle.types.specs.Answers.{MountAnswer}
 use Rattle.types.specs.Mounts.{empty_mount}
 use Rattle.types.specs.Numbers.{answer_number, mount_number}
 use Rattle.types.proofs.Tests.{both, and_left}
@@ -116,8 +116,8 @@ module _ (block : ℕ) (superblock options report : List ℕ) (open_limit active
   refused_mount : (x : MountAnswer) → mount_answer block superblock options report open_limit active_limit cnv seq ≡ x → mount_number x ≢ 0
       → mount_outcome block superblock options report open_limit active_limit cnv seq ≡ record { answer = x; mount = empty_mount; cnv = cnv; seq = seq }
   unfolding mount_outcome mount_of table_after
-  refused_mount (Refused y) e n = rw e refl
-  refused_mount (Mounted c s) e n = absurd (n refl)
+  refused_mount (Err y) e n = rw e refl
+  refused_mount (Ok (c, s)) e n = absurd (n refl)
 
   empty_told : (x : MountAnswer) → Empty (told_mounted w u a (record { answer = x; mount = empty_mount; cnv = cnv; seq = seq })) w u cnv seq
   unfolding mount_words account_words le

@@ -1,5 +1,6 @@
 -- What the shared checks tell, and what passes them. Whoever uses these opens none of the chains.
 -- Assumes nothing.
+use Rattle.std.specs.Prelude.{Ok, Err, Some, None}
 use Prim.Native.Nat.{ℕ, ◌+◌, ◌/◌, ◌^◌, ◌≤◌, ◌<◌}
 use native.Mathlib.Omega.{arith}
 use mathlib.Core.Path.{◌≡◌, refl, ap}
@@ -26,12 +27,9 @@ use Rattle.types.proofs.PredicateLaws.{none_is, some_is, conventional-is}
 use Rattle.account.specs.Account.{is_open, account_fits, counted}
 use Rattle.account.specs.Facts.{Room}
 use Rattle.account.proofs.Laws.{fits_room}
-use Rattle.table.specs.declared.Slot.{Slot}
-use Rattle.table.specs.declared.Slot.TheVariants as slot
+use Rattle.table.specs.Rows.{Slot}
 use Rattle.table.specs.Rows.{rows_lent, row_at}
-use Rattle.checks.specs.declared.Lookup.{Lookup}
-use Rattle.checks.specs.declared.Lookup.TheVariants as lookup
-use Rattle.checks.specs.declared.Checked.TheVariants as checked
+use Rattle.checks.specs.Checks.{Lookup}
 use Rattle.checks.specs.Checks.{files_fit, counts_fit, row_in, lookup_of, allowed, full, openable, sound_row, sound_slot, found_row, file_of}
 use Rattle.checks.specs.Facts.{SoundRow, Reached, ruled_slot, counted_file}
 
@@ -174,64 +172,67 @@ module _ (block : ℕ) (k : FileKind) (r : Row) where
       let openable = means_in (is_open r) _ (λ e. ap is_write (w.openable (ltb-true 0 r.opens e))) in
       both (both (both (both (both (both starts holds) ends) sized) (both (both offline none) readonly)) full) openable
 
+  pub sound_ends : sound_row block k r ≡ true → r.start + r.capacity / sector_bytes ≤ 2 ^ 40
+  sound_ends h = (sound_row_lem h).ends
+
   pub sound_openable : sound_row block k r ≡ true → openable r ≡ true
   sound_openable h = means_in (is_open r) _ (λ e. ap is_write ((sound_row_lem h).openable (ltb-true 0 r.opens e)))
 
 -- 10 (COUNTS), 1, 10 (ROW)
 
-in_table : (t : List ℕ) (n i : ℕ) (x : Slot) → row_in t n i ≡ lookup.Found x → (i < n) × (row_at t i ≡ x)
+in_table : (t : List ℕ) (n i : ℕ) (x : Slot) → row_in t n i ≡ Some x → (i < n) × (row_at t i ≡ x)
 in_table t n i x h = by (ltb i n) (row_at t i) refl h
   where
-    by : (b : Bool) (y : Slot) → ltb i n ≡ b → cond b (lookup.Found y) lookup.Nothing ≡ lookup.Found x → (i < n) × (y ≡ x)
+    by : (b : Bool) (y : Slot) → ltb i n ≡ b → cond b (Some y) None ≡ Some x → (i < n) × (y ≡ x)
     by true y e q = (ltb-true i n e, cc)
     by false y e q = let z : ◌≡◌ {A = ℕ} 0 1 = cc in absurd (omega arith)
 
-not_in_table : (t : List ℕ) (n i : ℕ) → row_in t n i ≡ lookup.Nothing → n ≤ i
+not_in_table : (t : List ℕ) (n i : ℕ) → row_in t n i ≡ None → n ≤ i
 not_in_table t n i h = by (ltb i n) refl h
   where
-    by : (b : Bool) → ltb i n ≡ b → cond b (lookup.Found (row_at t i)) lookup.Nothing ≡ lookup.Nothing → n ≤ i
+    by : (b : Bool) → ltb i n ≡ b → cond b (Some (row_at t i)) None ≡ None → n ≤ i
     by true e q = let z : ◌≡◌ {A = ℕ} 0 1 = cc in absurd (omega arith)
     by false e q = ltb-false i n e
 
 module _ (v : Volume) (cnv seq : List ℕ) (k : FileKind) (i : ℕ) where
-  pub lookup_some : (x : Slot) → lookup_of v cnv seq k i ≡ lookup.Found x → i < files_of k v
+  pub lookup_some : (x : Slot) → lookup_of v cnv seq k i ≡ Some x → i < files_of k v
   unfolding lookup_of
   lookup_some x e = (in_table (of_kind k cnv seq) (files_of k v) i x e).0
 
-  pub lookup_none : lookup_of v cnv seq k i ≡ lookup.Nothing → files_of k v ≤ i
+  pub lookup_none : lookup_of v cnv seq k i ≡ None → files_of k v ≤ i
   unfolding lookup_of
   lookup_none e = not_in_table (of_kind k cnv seq) (files_of k v) i e
 
 module _ (m : Mount) (cnv seq : List ℕ) (k : FileKind) (i : ℕ) (r : Row) where
   -- a row that is found and sound
-  reached : counts_fit m (length cnv) (length seq) ≡ true → lookup_of m.volume cnv seq k i ≡ lookup.Found (slot.Good r)
+  reached : counts_fit m (length cnv) (length seq) ≡ true → lookup_of m.volume cnv seq k i ≡ Some (Ok r)
       → sound_row m.volume.block k r && counted m k r ≡ true → Reached m cnv seq k i r
   unfolding lookup_of
   reached h e d =
-      let (l, q) = in_table (of_kind k cnv seq) (files_of k m.volume) i (slot.Good r) e in
+      let (l, q) = in_table (of_kind k cnv seq) (files_of k m.volume) i (Ok r) e in
       record { counts = h; number = l; row = q; sound = and_left _ (counted m k r) d; counted = and_right (sound_row m.volume.block k r) _ d }
 
-  pub file_reached : file_of m cnv seq k i ≡ checked.Good r → Reached m cnv seq k i r
+  pub file_reached : file_of m cnv seq k i ≡ Ok r → Reached m cnv seq k i r
   unfolding file_of
   file_reached e = counting (counts_fit m (length cnv) (length seq)) refl e
     where
       sounded : (y : Row) (t : Bool) → sound_row m.volume.block k y && counted m k y ≡ t → counts_fit m (length cnv) (length seq) ≡ true
-          → lookup_of m.volume cnv seq k i ≡ lookup.Found (slot.Good y)
-          → cond t (checked.Good y) (checked.Refused refusal.Impossible) ≡ checked.Good r → Reached m cnv seq k i r
+          → lookup_of m.volume cnv seq k i ≡ Some (Ok y)
+          → cond t (Ok y) (Err refusal.Impossible) ≡ Ok r → Reached m cnv seq k i r
       sounded y true d h f e = let q : y ≡ r = cc in reached h (rw q at f) (rw q at d)
       sounded y false d h f e = let z : ◌≡◌ {A = ℕ} 0 1 = cc in absurd (omega arith)
 
-      looked : (x : Lookup) → counts_fit m (length cnv) (length seq) ≡ true → lookup_of m.volume cnv seq k i ≡ x → found_row m k x ≡ checked.Good r → Reached m cnv seq k i r
-      looked (lookup.Found (slot.Good y)) h f e = sounded y (sound_row m.volume.block k y && counted m k y) refl h f e
-      looked (lookup.Found (slot.Impossible o)) h f e = let z : ◌≡◌ {A = ℕ} 0 1 = cc in absurd (omega arith)
-      looked lookup.Nothing h f e = let z : ◌≡◌ {A = ℕ} 0 1 = cc in absurd (omega arith)
+      looked : (x : Lookup) → counts_fit m (length cnv) (length seq) ≡ true → lookup_of m.volume cnv seq k i ≡ x → found_row m k x ≡ Ok r → Reached m cnv seq k i r
+      looked (Some (Ok y)) h f e = sounded y (sound_row m.volume.block k y && counted m k y) refl h f e
+      looked (Some (Err o)) h f e = let z : ◌≡◌ {A = ℕ} 0 1 = cc in absurd (omega arith)
+      looked None h f e = let z : ◌≡◌ {A = ℕ} 0 1 = cc in absurd (omega arith)
 
       counting : (t : Bool) → counts_fit m (length cnv) (length seq) ≡ t
-          → cond t (found_row m k (lookup_of m.volume cnv seq k i)) (checked.Refused refusal.Impossible) ≡ checked.Good r → Reached m cnv seq k i r
+          → cond t (found_row m k (lookup_of m.volume cnv seq k i)) (Err refusal.Impossible) ≡ Ok r → Reached m cnv seq k i r
       counting true h e = looked (lookup_of m.volume cnv seq k i) h refl e
       counting false h e = let z : ◌≡◌ {A = ℕ} 0 1 = cc in absurd (omega arith)
 
-  pub reached_file : Reached m cnv seq k i r → file_of m cnv seq k i ≡ checked.Good r
+  pub reached_file : Reached m cnv seq k i r → file_of m cnv seq k i ≡ Ok r
   unfolding file_of lookup_of
   reached_file w = simp (w.counts, lt-ltb i (files_of k m.volume) w.number, w.row, w.sound, w.counted)
 
@@ -248,23 +249,23 @@ module _ (m : Mount) (cnv seq : List ℕ) (k : FileKind) (i : ℕ) (r : Row) whe
 
 -- in order: what the file is where a check refuses it, and past the counts and the lookup
 module _ (m : Mount) (cnv seq : List ℕ) (k : FileKind) (i : ℕ) where
-  pub file_counts : counts_fit m (length cnv) (length seq) ≡ false → file_of m cnv seq k i ≡ checked.Refused refusal.Impossible
+  pub file_counts : counts_fit m (length cnv) (length seq) ≡ false → file_of m cnv seq k i ≡ Err refusal.Impossible
   unfolding file_of
   file_counts h = rw h
 
-  pub file_none : counts_fit m (length cnv) (length seq) ≡ true → lookup_of m.volume cnv seq k i ≡ lookup.Nothing → file_of m cnv seq k i ≡ checked.Refused refusal.NoFile
+  pub file_none : counts_fit m (length cnv) (length seq) ≡ true → lookup_of m.volume cnv seq k i ≡ None → file_of m cnv seq k i ≡ Err refusal.NoFile
   unfolding file_of
   file_none h e = rw (h, e)
 
-  pub file_found : {x : Slot} → counts_fit m (length cnv) (length seq) ≡ true → lookup_of m.volume cnv seq k i ≡ lookup.Found x → file_of m cnv seq k i ≡ sound_slot m k x
+  pub file_found : {x : Slot} → counts_fit m (length cnv) (length seq) ≡ true → lookup_of m.volume cnv seq k i ≡ Some x → file_of m cnv seq k i ≡ sound_slot m k x
   unfolding file_of
   file_found h e = rw (h, e)
 
 -- 10 (row) in two steps
 pub slot_counted : (m : Mount) (k : FileKind) (x : Slot) → counted_file m k (ruled_slot m.volume.block k x) ≡ sound_slot m k x
-slot_counted m k (slot.Good r) = by (sound_row m.volume.block k r)
+slot_counted m k (Ok r) = by (sound_row m.volume.block k r)
   where
-    by : (p : Bool) → counted_file m k (cond p (checked.Good r) (checked.Refused refusal.Impossible)) ≡ cond (p && counted m k r) (checked.Good r) (checked.Refused refusal.Impossible)
+    by : (p : Bool) → counted_file m k (cond p (Ok r) (Err refusal.Impossible)) ≡ cond (p && counted m k r) (Ok r) (Err refusal.Impossible)
     by true = refl
     by false = refl
-slot_counted m k (slot.Impossible o) = refl
+slot_counted m k (Err o) = refl

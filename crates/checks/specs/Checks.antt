@@ -1,6 +1,6 @@
 -- The checks that calls and completions share: "Calls check in the order 10 (counts), 1, 10 (row), 2, then as below; finding a name or showing a row
 -- stops before 2."
-use Rattle.std.specs.Prelude.{ℕ, ◌/◌, List, Bool, cond, not, ◌&&◌, length, eqb, leb, ltb}
+use Rattle.std.specs.Prelude.{ℕ, ◌/◌, List, Bool, cond, not, ◌&&◌, length, eqb, leb, ltb, Option, Result, Ok, Err, Some, None}
 use Rattle.types.specs.declared.Volume.{Volume}
 use Rattle.types.specs.declared.Mount.{Mount}
 use Rattle.types.specs.declared.Row.{Row}
@@ -13,13 +13,16 @@ use Rattle.types.specs.Blocks.{sector_bytes, block_sectors, good_block, on_block
 use Rattle.types.specs.Kinds.{of_kind, files_of}
 use Rattle.types.specs.Predicates.{means, is_conventional, is_read_only, is_offline, is_none, is_write}
 use Rattle.account.specs.Account.{is_open, account_fits, counted}
-use Rattle.table.specs.declared.Slot.{Slot}
-use Rattle.table.specs.declared.Slot.TheVariants as slot
+use Rattle.table.specs.Rows.{Slot}
 use Rattle.table.specs.Rows.{rows_lent, row_at}
-use Rattle.checks.specs.declared.Lookup.{Lookup}
-use Rattle.checks.specs.declared.Lookup.TheVariants.{Found, Nothing}
-use Rattle.checks.specs.declared.Checked.{Checked}
-use Rattle.checks.specs.declared.Checked.TheVariants.{Good, Refused}
+
+-- what a lookup finds: a file's row as its words say, or that there is no such file
+abbrev pub Lookup : Type 0
+Lookup = Option Slot
+
+-- a row that a call may go on with, or the refusal
+abbrev pub Checked : Type 0
+Checked = Result Row Refusal
 
 -- ---- 10 (counts): "more files of either kind than rows lent or than 1,022, a wrong block", and 02: "Files in 10 may now be up to 65,535", "an
 -- account above the seq file count"
@@ -37,7 +40,7 @@ counts_fit m cnv seq =
 
 -- the file of number i among a table's files
 abbrev pub row_in : List ℕ → ℕ → ℕ → Lookup
-row_in table files i = cond (ltb i files) (Found (row_at table i)) Nothing
+row_in table files i = cond (ltb i files) (Some (row_at table i)) None
 
 unfoldable pub lookup_of : Volume → List ℕ → List ℕ → FileKind → ℕ → Lookup
 lookup_of v cnv seq k i = row_in (of_kind k cnv seq) (files_of k v) i
@@ -76,17 +79,17 @@ sound_row block k r =
 
 -- and beside the account, 02: not "0 in what the named row counts in"
 abbrev pub sound_slot : Mount → FileKind → Slot → Checked
-sound_slot m k (slot.Good r) = cond (sound_row m.volume.block k r && counted m k r) (Good r) (Refused refusal.Impossible)
-sound_slot m k (slot.Impossible o) = Refused refusal.Impossible
+sound_slot m k (Ok r) = cond (sound_row m.volume.block k r && counted m k r) (Ok r) (Err refusal.Impossible)
+sound_slot m k (Err o) = Err refusal.Impossible
 
 -- ---- in order
 
 -- 1, then 10 (row)
 abbrev pub found_row : Mount → FileKind → Lookup → Checked
-found_row m k (Found x) = sound_slot m k x
-found_row m k Nothing = Refused refusal.NoFile
+found_row m k (Some x) = sound_slot m k x
+found_row m k None = Err refusal.NoFile
 
 -- 10 (counts), 1, 10 (row): the row of file i of a kind, or the refusal
 unfoldable pub file_of : Mount → List ℕ → List ℕ → FileKind → ℕ → Checked
 file_of m cnv seq k i =
-    cond (counts_fit m (length cnv) (length seq)) (found_row m k (lookup_of m.volume cnv seq k i)) (Refused refusal.Impossible)
+    cond (counts_fit m (length cnv) (length seq)) (found_row m k (lookup_of m.volume cnv seq k i)) (Err refusal.Impossible)

@@ -1,5 +1,5 @@
 -- What the shared checks tell once they are passed. No outcome is defined here: contracts and the crates above hand these facts on.
-use Rattle.std.specs.Prelude.{ℕ, ◌+◌, ◌/◌, ◌%◌, ◌^◌, ◌≤◌, ◌<◌, ◌≡◌, true, cond, List, length}
+use Rattle.std.specs.Prelude.{ℕ, ◌+◌, ◌/◌, ◌%◌, ◌^◌, ◌≤◌, ◌<◌, ◌≡◌, true, cond, List, length, Ok, Err}
 use Rattle.types.specs.declared.Mount.{Mount}
 use Rattle.types.specs.declared.Row.{Row}
 use Rattle.types.specs.declared.FileKind.{FileKind}
@@ -10,11 +10,9 @@ use Rattle.types.specs.Blocks.{sector_bytes, block_sectors}
 use Rattle.types.specs.Kinds.{of_kind, files_of}
 use Rattle.account.specs.Account.{counted}
 use Rattle.types.specs.declared.Refusal.TheVariants as refusal
-use Rattle.table.specs.declared.Slot.{Slot}
-use Rattle.table.specs.declared.Slot.TheVariants as slot
+use Rattle.table.specs.Rows.{Slot}
 use Rattle.table.specs.Rows.{row_at}
-use Rattle.checks.specs.declared.Checked.{Checked}
-use Rattle.checks.specs.declared.Checked.TheVariants as checked
+use Rattle.checks.specs.Checks.{Checked}
 use Rattle.checks.specs.Checks.{counts_fit, openable, sound_row}
 
 -- 10 (row), clause by clause
@@ -36,26 +34,26 @@ pub record SoundRow (block : ℕ) (k : FileKind) (r : Row) : Type 0 where
 pub record Reached (m : Mount) (cnv seq : List ℕ) (k : FileKind) (i : ℕ) (r : Row) : Type 0 where
   pub counts : counts_fit m (length cnv) (length seq) ≡ true
   pub number : i < files_of k m.volume
-  pub row : row_at (of_kind k cnv seq) i ≡ slot.Good r
+  pub row : row_at (of_kind k cnv seq) i ≡ Ok r
   pub sound : sound_row m.volume.block k r ≡ true
   pub counted : counted m k r ≡ true
 
 -- 10 (row) in two steps, as the code takes them: the row's own rules, and then the account. The law `slot_counted` says that together they are
 -- `sound_slot`
 abbrev pub ruled_slot : ℕ → FileKind → Slot → Checked
-ruled_slot block k (slot.Good r) = cond (sound_row block k r) (checked.Good r) (checked.Refused refusal.Impossible)
-ruled_slot block k (slot.Impossible o) = checked.Refused refusal.Impossible
+ruled_slot block k (Ok r) = cond (sound_row block k r) (Ok r) (Err refusal.Impossible)
+ruled_slot block k (Err o) = Err refusal.Impossible
 
 abbrev pub counted_file : Mount → FileKind → Checked → Checked
-counted_file m k (checked.Good r) = cond (counted m k r) (checked.Good r) (checked.Refused refusal.Impossible)
-counted_file m k (checked.Refused x) = checked.Refused x
+counted_file m k (Ok r) = cond (counted m k r) (Ok r) (Err refusal.Impossible)
+counted_file m k (Err x) = Err x
 
 -- what a checked row tells: sums on it never wrap
 abbrev pub Ends : Checked → Type 0
-Ends (checked.Good r) = r.start + r.capacity / sector_bytes ≤ 2 ^ 40
-Ends (checked.Refused x) = Unit
+Ends (Ok r) = r.start + r.capacity / sector_bytes ≤ 2 ^ 40
+Ends (Err x) = Unit
 
 -- and it has opens only with write access
 abbrev pub Openable : Checked → Type 0
-Openable (checked.Good r) = openable r ≡ true
-Openable (checked.Refused x) = Unit
+Openable (Ok r) = openable r ≡ true
+Openable (Err x) = Unit

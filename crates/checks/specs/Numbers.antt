@@ -1,29 +1,26 @@
 -- The number and the values of what a lookup finds and of what the checks give: the refusal's, or 0 with the row's words.
-use Rattle.std.specs.Prelude.{ℕ, List}
+use Rattle.std.specs.Prelude.{ℕ, List, Ok, Err, Some, None}
 use Rattle.types.specs.declared.Refusal.TheVariants as refusal
 use Rattle.types.specs.Numbers.{refusal_number, refusal_values}
-use Rattle.table.specs.declared.Slot.TheVariants as slot
 use Rattle.table.specs.Rows.{row_words}
-use Rattle.checks.specs.declared.Lookup.{Lookup}
-use Rattle.checks.specs.declared.Lookup.TheVariants.{Found, Nothing}
-use Rattle.checks.specs.declared.Checked.{Checked}
-use Rattle.checks.specs.declared.Checked.TheVariants.{Good, Refused}
+use Rattle.checks.specs.Checks.{Lookup}
+use Rattle.checks.specs.Checks.{Checked}
 
 -- "no such file", "tables impossible"
 abbrev pub lookup_number : Lookup → ℕ
-lookup_number (Found (slot.Good r)) = 0
-lookup_number (Found (slot.Impossible o)) = refusal_number refusal.Impossible
-lookup_number Nothing = refusal_number refusal.NoFile
+lookup_number (Some (Ok r)) = 0
+lookup_number (Some (Err o)) = refusal_number refusal.Impossible
+lookup_number None = refusal_number refusal.NoFile
 
 abbrev pub lookup_values : Lookup → List ℕ
-lookup_values (Found (slot.Good r)) = row_words r
-lookup_values (Found (slot.Impossible o)) = refusal_values refusal.Impossible
-lookup_values Nothing = refusal_values refusal.NoFile
+lookup_values (Some (Ok r)) = row_words r
+lookup_values (Some (Err o)) = refusal_values refusal.Impossible
+lookup_values None = refusal_values refusal.NoFile
 
 abbrev pub checked_number : Checked → ℕ
-checked_number (Good r) = 0
-checked_number (Refused x) = refusal_number x
+checked_number (Ok r) = 0
+checked_number (Err x) = refusal_number x
 
 abbrev pub checked_values : Checked → List ℕ
-checked_values (Good r) = row_words r
-checked_values (Refused x) = refusal_values x
+checked_values (Ok r) = row_words r
+checked_values (Err x) = refusal_values x

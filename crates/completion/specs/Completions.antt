@@ -1,15 +1,13 @@
 -- "Completion and recovery": what a completion answers, the mount that it leaves, and the row that it stores.
-use Rattle.std.specs.Prelude.{ℕ, List, Bool, cond, length, eqb}
+use Rattle.std.specs.Prelude.{ℕ, List, Bool, cond, length, eqb, Ok, Err, Some, None}
 use Rattle.types.specs.declared.Mount.{Mount}
 use Rattle.types.specs.declared.Row.{Row}
 use Rattle.types.specs.declared.Held.{Held}
 use Rattle.types.specs.declared.FileKind.{FileKind}
 use Rattle.types.specs.declared.Refusal.TheVariants as refusal
-use Rattle.types.specs.declared.ZoneFault.TheVariants as fault
-use Rattle.types.specs.declared.Answer.TheVariants.{Refused, Done}
+use Rattle.types.specs.declared.Granted.TheVariants.{Done}
 use Rattle.types.specs.declared.ErrorPolicy.{ErrorPolicy}
 use Rattle.types.specs.declared.ErrorPolicy.TheVariants.{RemountRo, ZoneRo, ZoneOffline, Repair}
-use Rattle.types.specs.declared.Store.TheVariants as store
 use Rattle.types.specs.declared.Effect.{Effect}
 use Rattle.types.specs.Codes.{is_kind, kind_from}
 use Rattle.types.specs.Effects.{refusing}
@@ -22,8 +20,7 @@ use Rattle.zones.specs.Zone.{zone_bytes, zone_at}
 use Rattle.recovery.specs.Success.{row_after}
 use Rattle.recovery.specs.Fits.{record_fits, misfit}
 use Rattle.recovery.specs.Recovery.{nothing_lost, recovered_row, kept_open}
-use Rattle.held.specs.declared.Pending.{Pending}
-use Rattle.held.specs.declared.Pending.TheVariants as pending
+use Rattle.held.specs.Held.{Pending}
 use Rattle.held.specs.Held.{pending_of}
 
 -- ---- what the disk tells
@@ -47,8 +44,8 @@ completion_by done given bytes = cond done good (completion_of given bytes)
 -- the count is the command's length, "0 but for reads and writes"; 02: the account is "corrected in place"
 unfoldable pub succeeded : Mount → Held → Row → Effect
 succeeded m h r = record {
-  outcome = record { answer = Done h.command.length; mount = accounted m h.kind r (row_after h.kind h.command r) };
-  store = store.Put h.kind h.number (cleared (row_after h.kind h.command r));
+  outcome = record { answer = Ok (Done h.command.length); mount = accounted m h.kind r (row_after h.kind h.command r) };
+  store = Some (h.kind, h.number, cleared (row_after h.kind h.command r));
 }
 
 -- ---- a failure whose record fits: "Otherwise answer 7, command cleared."
@@ -56,8 +53,8 @@ succeeded m h r = record {
 -- the mount after it, and the row that the file has then
 abbrev pub failing : Mount → Held → Row → Effect
 failing m h r = record {
-  outcome = record { answer = Refused (refusal.Failed r.size); mount = m };
-  store = store.Put h.kind h.number (cleared r);
+  outcome = record { answer = Err (refusal.Failed r.size); mount = m };
+  store = Some (h.kind, h.number, cleared r);
 }
 
 -- "Under remount-ro every recovery also marks the whole mount read-only."; 02: it "leaves other files' commands outstanding"
@@ -85,11 +82,11 @@ effect_on m h r good = succeeded m h r
 effect_on m h r (failed z) =
     cond (record_fits m.volume.block h.kind r z) (recovered m h r z)
     (refusing m (refusal.BadRecord (misfit m.volume.block h.kind r z)))
-effect_on m h r malformed = refusing m (refusal.BadRecord fault.Nothing)
+effect_on m h r malformed = refusing m (refusal.BadRecord None)
 
 abbrev pub effect_pending : Mount → Pending → Completion → Effect
-effect_pending m (pending.On h r) x = effect_on m h r x
-effect_pending m (pending.Refused y) x = refusing m y
+effect_pending m (Ok (h, r)) x = effect_on m h r x
+effect_pending m (Err y) x = refusing m y
 
 -- THE COMPLETIONS: of the command that file i of a kind has outstanding, as the disk tells
 abbrev pub effect_of : Mount → List ℕ → List ℕ → FileKind → ℕ → Completion → Effect

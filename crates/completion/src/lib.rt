@@ -7,27 +7,21 @@ ghost use Rattle.account.specs.Facts.{Room};
 ghost use Rattle.held.specs.Facts.{Safe, PendingSafe};
 ghost use Rattle.completion.specs.Completions.{Completion, completion_of, completion_by, succeeded, failing, marked_by, recovering, recovered, effect_on, effect_pending, effect_of, effect_by};
 
-use held::Pending;
-use types::{
-    Answer, Effect, ErrorPolicy, FileKind, Held, Mount, Outcome, Refusal, Row, Store, ZoneFault,
-};
+use types::{Effect, ErrorPolicy, FileKind, Granted, Held, Mount, Outcome, Refusal, Row};
 use zones::Zone;
 
+#[tactic(auto, unfolding(crate::specs::Completions::succeeded))]
 fn succeeded(m: Mount, h: Held, row: Row) -> Effect
     requires { Safe m h row }
     ensures { result ≡ succeeded m h row }
 {
-    let kind = h.kind;
-    let command = h.command;
-    let after = recovery::success::row_after(kind, command, row);
-    let mount = account::accounted(m, kind, row, after);
-    let left = table::cleared(after);
+    let after = recovery::success::row_after(h.kind, h.command, row);
     Effect {
         outcome: Outcome {
-            answer: Answer::Done(command.length),
-            mount,
+            answer: Ok(Granted::Done(h.command.length)),
+            mount: account::accounted(m, h.kind, row, after),
         },
-        store: Store::Put(kind, h.number, left),
+        store: Some((h.kind, h.number, table::cleared(after))),
     }
 }
 
@@ -36,9 +30,7 @@ fn marked_by(policy: ErrorPolicy, m: Mount) -> Mount
 {
     match policy {
         ErrorPolicy::RemountRo => types::mounts::made_readonly(m),
-        ErrorPolicy::ZoneRo => m,
-        ErrorPolicy::ZoneOffline => m,
-        ErrorPolicy::Repair => m,
+        ErrorPolicy::ZoneRo | ErrorPolicy::ZoneOffline | ErrorPolicy::Repair => m,
     }
 }
 
@@ -46,14 +38,12 @@ fn marked_by(policy: ErrorPolicy, m: Mount) -> Mount
 fn failing(m: Mount, h: Held, row: Row) -> Effect
     ensures { result ≡ failing m h row }
 {
-    let kind = h.kind;
-    let left = table::cleared(row);
     Effect {
         outcome: Outcome {
-            answer: Answer::Refused(Refusal::Failed(row.size)),
+            answer: Err(Refusal::Failed(row.size)),
             mount: m,
         },
-        store: Store::Put(kind, h.number, left),
+        store: Some((h.kind, h.number, table::cleared(row))),
     }
 }
 
@@ -62,37 +52,30 @@ fn recovering(m: Mount, h: Held, before: Row, row: Row) -> Effect
     requires { Room m.account }
     ensures { result ≡ recovering m h before row }
 {
-    let volume = m.volume;
-    let policy = volume.policy;
-    let kind = h.kind;
-    let mount = account::accounted(marked_by(policy, m), kind, before, row);
-    failing(mount, h, row)
+    let marked = marked_by(m.volume.policy, m);
+    failing(account::accounted(marked, h.kind, before, row), h, row)
 }
 
+#[tactic(auto, unfolding(crate::specs::Completions::recovered), using(crate::proofs::Laws::recovered_otherwise))]
 fn recovered(m: Mount, h: Held, row: Row, z: Zone) -> Effect
     requires { Room m.account × Fitting h.kind z }
     ensures { result ≡ recovered m h row z }
 {
-    let command = h.command;
-    let failed = command.kind;
-    let kind = h.kind;
-    if recovery::nothing_lost(kind, failed, z, row.size) {
+    let failed = h.command.kind;
+    if recovery::nothing_lost(h.kind, failed, z, row.size) {
         return failing(m, h, row);
     }
-    let volume = m.volume;
-    let policy = volume.policy;
-    let after = recovery::recovered_row(policy, kind, z, row);
+    let after = recovery::recovered_row(m.volume.policy, h.kind, z, row);
     recovering(m, h, row, recovery::kept_open(failed, after))
 }
 
 // Check 9, and then as the record says.
+#[tactic(auto, using(recovery::proofs::Laws::misfit_faultless))]
 fn effect_of_record(m: Mount, h: Held, row: Row, z: Zone) -> Effect
     requires { Safe m h row }
     ensures { result ≡ effect_on m h row (Completion.failed z) }
 {
-    let volume = m.volume;
-    let kind = h.kind;
-    let fault = recovery::fits::misfit(volume.block, kind, row, z);
+    let fault = recovery::fits::misfit(m.volume.block, h.kind, row, z);
     if zones::is_faultless(fault) {
         recovered(m, h, row, z)
     } else {
@@ -101,6 +84,7 @@ fn effect_of_record(m: Mount, h: Held, row: Row, z: Zone) -> Effect
 }
 
 // Bytes of another length are no record: 9 too, and no field of it can be named.
+#[tactic(auto, unfolding(crate::specs::Completions::completion_of))]
 fn effect_of_bytes(m: Mount, h: Held, row: Row, bytes: &[u8], given: bool) -> Effect
     requires { Safe m h row }
     ensures { result ≡ effect_on m h row (completion_of given bytes.now) }
@@ -108,28 +92,30 @@ fn effect_of_bytes(m: Mount, h: Held, row: Row, bytes: &[u8], given: bool) -> Ef
     if bytes.len() == zones::ZONE_BYTES {
         effect_of_record(m, h, row, zones::zone_at(bytes, 0, given))
     } else {
-        types::effects::refusing(m, Refusal::BadRecord(ZoneFault::Nothing))
+        types::effects::refusing(m, Refusal::BadRecord(None))
     }
 }
 
-fn effect_pending(m: Mount, p: Pending, done: bool, bytes: &[u8], given: bool) -> Effect
+fn effect_pending(
+    m: Mount,
+    p: Result<(Held, Row), Refusal>,
+    done: bool,
+    bytes: &[u8],
+    given: bool,
+) -> Effect
     requires { PendingSafe m p }
     ensures { result ≡ effect_pending m p (completion_by done given bytes.now) }
 {
     match p {
-        Pending::On(h, row) => {
-            if done {
-                succeeded(m, h, row)
-            } else {
-                effect_of_bytes(m, h, row, bytes, given)
-            }
-        }
-        Pending::Refused(x) => types::effects::refusing(m, x),
+        Ok((h, row)) if done => succeeded(m, h, row),
+        Ok((h, row)) => effect_of_bytes(m, h, row, bytes, given),
+        Err(x) => types::effects::refusing(m, x),
     }
 }
 
 // The command that a file has outstanding was done well, or it failed: then the bytes are its zone's record, and `given` says that the record
 // states a capacity. One row is read.
+#[tactic(auto, using(held::proofs::Laws::pending_safe))]
 fn end_command(
     m: Mount,
     cnv: &[u64],
@@ -147,6 +133,8 @@ fn end_command(
 }
 
 // Of a file whose kind is given as a number.
+// The kind stays a number, and the end a flag with a record: `effect_by` and `completion_by` of the specs take them so.
+#[tactic(auto, unfolding(crate::specs::Completions::effect_by))]
 pub fn end_by(
     m: Mount,
     cnv: &[u64],

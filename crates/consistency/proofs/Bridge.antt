@@ -1,5 +1,6 @@
 -- From the words of a table to its rows.
 -- Assumes nothing.
+use Rattle.std.specs.Prelude.{Ok}
 use Prim.Native.Nat.{ℕ, ◌<◌, ◌≤◌}
 use native.Mathlib.Omega.{arith}
 use native.Mathlib.Decide.{ℕ_discrete}
@@ -9,7 +10,6 @@ use mathlib.Core.List.{List}
 use lib.ListN.{length, get_or, set, length-set}
 use lib.Seq.{get_or-set_same, get_or-set_other}
 use Rattle.types.specs.declared.Row.{Row}
-use Rattle.table.specs.declared.Slot.TheVariants.{Good}
 use Rattle.table.specs.Rows.{rows_lent, offline_row, row_at, set_row}
 use Rattle.table.proofs.Laws.{row_at-same, row_at_other}
 use Rattle.mount.specs.Fill.{fill}
@@ -21,11 +21,11 @@ no_row = offline_row 0 0
 -- the first k rows of a table are these
 pub record Listed (t : List ℕ) (rows : List Row) (k : ℕ) : Type 0 where
   pub enough : k ≤ length rows
-  pub row : (n : ℕ) → n < k → row_at t n ≡ Good (get_or rows n no_row)
+  pub row : (n : ℕ) → n < k → row_at t n ≡ Ok (get_or rows n no_row)
 
 -- a table of which row i became r, and nothing else
 pub record Became (t : List ℕ) (i : ℕ) (r : Row) (new : List ℕ) : Type 0 where
-  pub here : row_at new i ≡ Good r
+  pub here : row_at new i ≡ Ok r
   pub there : (j : ℕ) → i ≢ j → row_at new j ≡ row_at t j
 
 pub set_became : (t : List ℕ) (i : ℕ) (r : Row) → i < rows_lent (length t) → Became t i r (set_row t i r)
@@ -35,10 +35,10 @@ set_became t i r h = record { here = row_at-same t i r h; there = λ j d. row_at
 pub listed_became : {t : List ℕ} {rows : List Row} {k : ℕ} {i : ℕ} {r : Row} {new : List ℕ} → Listed t rows k → i < k → Became t i r new → Listed new (set rows i r) k
 listed_became {t} {rows} {k} {i} {r} {new} s l b = record { enough = simp length-set s.enough; row = at }
   where
-    at : (n : ℕ) → n < k → row_at new n ≡ Good (get_or (set rows i r) n no_row)
+    at : (n : ℕ) → n < k → row_at new n ≡ Ok (get_or (set rows i r) n no_row)
     at n h = elim (ℕ_discrete i n) [
-      | yes e ↦ let q : i < length rows = omega (arith, s.enough) in rw (← e) (b.here ∙ ap Good (sym (get_or-set_same rows i r no_row q)))
-      | no d ↦ b.there n d ∙ s.row n h ∙ ap Good (sym (get_or-set_other rows i n r no_row (λ q. d (sym q))))
+      | yes e ↦ let q : i < length rows = omega (arith, s.enough) in rw (← e) (b.here ∙ ap Ok (sym (get_or-set_same rows i r no_row q)))
+      | no d ↦ b.there n d ∙ s.row n h ∙ ap Ok (sym (get_or-set_other rows i n r no_row (λ q. d (sym q))))
     ]
 
 -- A FILLED TABLE shows the rows that it was filled with.

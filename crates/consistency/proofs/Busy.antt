@@ -1,5 +1,6 @@
 -- What is outstanding on a file, and what that tells of the file and its row.
 -- Assumes nothing.
+use Rattle.std.specs.Prelude.{Ok}
 use Prim.Native.Nat.{ℕ, ◌<◌}
 use native.Mathlib.Omega.{arith}
 use mathlib.Core.Path.{◌≡◌, refl, ap, ◌∙◌}
@@ -13,7 +14,6 @@ use Rattle.types.specs.declared.Outstanding.{Outstanding}
 use Rattle.types.specs.declared.Outstanding.TheVariants.{Idle, Busy}
 use Rattle.types.specs.Codes.{is_kind, kind_from}
 use Rattle.types.specs.Kinds.{files_of}
-use Rattle.table.specs.declared.Slot.TheVariants.{Good}
 use Rattle.table.specs.Rows.{row_at, outstanding_in}
 use Rattle.completion.specs.Completions.{Completion}
 use Rattle.completion.specs.Completions as completions
@@ -25,7 +25,7 @@ use Rattle.consistency.specs.System.{outstanding_on, outstanding_by}
 pub known_on : (s : State) (k : FileKind) (n : ℕ) → n < files_of k s.mount.volume → outstanding_on s k n ≡ outstanding_in (row_at (table_of k s) n)
 known_on s k n h = rw (lt-ltb n (files_of k s.mount.volume) h)
 
-pub row_on : (s : State) (k : FileKind) (n : ℕ) (r : Row) → n < files_of k s.mount.volume → row_at (table_of k s) n ≡ Good r → outstanding_on s k n ≡ r.outstanding
+pub row_on : (s : State) (k : FileKind) (n : ℕ) (r : Row) → n < files_of k s.mount.volume → row_at (table_of k s) n ≡ Ok r → outstanding_on s k n ≡ r.outstanding
 row_on s k n r h e = known_on s k n h ∙ ap outstanding_in e
 
 -- a file that has a command outstanding is one

@@ -1,24 +1,23 @@
 -- The starred cases and the small runs, computed from bytes: what the super blocks say, what the mounts give, and then each of both tables.
 -- Here the definitions that they go through are opened, and nowhere above.
 -- Assumes nothing.
+use Rattle.types.specs.declared.Refusal.{Refusal}
+use Rattle.std.specs.Prelude.{Ok, Some, Result}
 use mathlib.Core.Bool.{Bool, true, false}
 use mathlib.Core.List.{List, [], ◌∷◌}
 use mathlib.Core.Path.{◌≡◌, refl, ap}
 use Prim.Native.Nat.{ℕ}
 use Rattle.types.specs.declared.ErrorPolicy.{ErrorPolicy}
 use Rattle.types.specs.declared.ErrorPolicy.TheVariants.{RemountRo, ZoneRo, ZoneOffline, Repair}
-use Rattle.types.specs.declared.MountAnswer.TheVariants.{Mounted}
-use Rattle.types.specs.declared.Verdict.TheVariants.{Passed}
 use Rattle.types.specs.Stated.{AsStated}
 use Rattle.types.specs.Verdicts.{refuse, and_then, answer_after}
 use Rattle.wire.specs.Le.{le, little}
 use Rattle.crc32.specs.Crc.{crc_from, crc_byte, crc_steps, crc_step, superblock_crc}
 use Rattle.table.specs.Rows.{row_at, set_row}
 use Rattle.calls.specs.Calls as calls
-use Rattle.superblock.specs.declared.SuperRead.{SuperRead}
-use Rattle.superblock.specs.SuperBlock.{encode_super, nonzero, super_check, fields_of, super_read}
+use Rattle.superblock.specs.declared.SuperBlock.{SuperBlock}
+use Rattle.superblock.specs.SuperBlock.{encode_super, nonzero, super_check, fields_of, super_read, fields_in}
 use Rattle.text.specs.Text.{same}
-use Rattle.options.specs.declared.Options.TheVariants as options
 use Rattle.account.specs.Account.{is_active, corrected, limit_check, account_fits, counted}
 use Rattle.account.specs.Counts.{count_in}
 use Rattle.options.specs.Options.{split, skip_empty, piece_of, options_of}
@@ -45,8 +44,8 @@ use Rattle.consistency.specs.Runs.{disk, replies, command_runs, mishap_runs, exc
 
 -- THE SUPER BLOCKS are good, and say this
 
-abbrev super_says : Bool → SuperRead
-super_says aggregate = record { check = Passed; fields = record { aggregate = aggregate; owner = 0; group = 0; mode = 0o640; uuid = uuid aggregate } }
+abbrev super_says : Bool → Result SuperBlock Refusal
+super_says aggregate = Ok (record { aggregate = aggregate; owner = 0; group = 0; mode = 0o640; uuid = uuid aggregate })
 
 super_read_lem : (aggregate : Bool) → super_read (superblock aggregate) ≡ super_says aggregate
 unfolding superblock encode_super little le crc_from crc_byte crc_steps crc_step superblock_crc nonzero refuse super_check fields_of super_read
@@ -54,11 +53,11 @@ super_read_lem false = refl
 super_read_lem true = refl
 
 super_aggregates : (aggregate : Bool) → mounts.aggregated (superblock aggregate) ≡ aggregate
-super_aggregates aggregate = ap (λ (r : SuperRead). r.fields.aggregate) (super_read_lem aggregate)
+super_aggregates aggregate = ap (λ (r : Result SuperBlock Refusal). (fields_in r).aggregate) (super_read_lem aggregate)
 
 -- THE OPTIONS
 
-options_chosen : (explicit : Bool) (p : ErrorPolicy) → options_of (options_text explicit p) ≡ options.Good (record { policy = p; explicit = explicit })
+options_chosen : (explicit : Bool) (p : ErrorPolicy) → options_of (options_text explicit p) ≡ Some (record { policy = p; explicit = explicit })
 unfolding split skip_empty same piece_of options_of
 options_chosen false RemountRo = refl
 options_chosen false ZoneRo = refl
@@ -90,7 +89,7 @@ last_words (by_hand open_limit active_limit) = 0 ∷ 0 ∷ 2 ∷ 0 ∷ 0 ∷ 0 �
 
 abbrev pub mount_gives : Setting → ErrorPolicy → Mounting
 mount_gives x p = record {
-  answer = Mounted (cnv_count (aggregates x)) 2;
+  answer = Ok (cnv_count (aggregates x), 2);
   mount = record {
     volume = record { block = block_in x; conventional = cnv_count (aggregates x); sequential = 2; owner = 0; group = 0; mode = 0o640; policy = p; explicit = explicit_in x; uuid = uuid (aggregates x) };
     readonly = false;

@@ -1,5 +1,6 @@
 -- Demand 3 holds, and what stands beside it.
 -- Assumes nothing.
+use Rattle.std.specs.Prelude.{Ok}
 use mathlib.Core.Bool.{Bool, true, false, cond}
 use mathlib.Core.List.{List, map}
 use mathlib.Core.Path.{◌≡◌, refl, sym, ap, ◌∙◌, subst}
@@ -18,7 +19,6 @@ use Rattle.types.specs.Kinds.{files_of}
 use Rattle.types.specs.Numbers.{answer_number}
 use Rattle.types.specs.Blocks.{block_sectors}
 use Rattle.types.proofs.Blocks.{is_block}
-use Rattle.table.specs.declared.Slot.TheVariants.{Good}
 use Rattle.table.specs.Rows.{row_at}
 use Rattle.options.specs.Options.{options_of}
 use Rattle.zones.specs.declared.Zone.{Zone}
@@ -137,11 +137,11 @@ module _ (h : History) where
       seq_fit = rw (seqs_again, same_files, f.seq_long) first.seq_fit;
     }
 
-    fresh_row : (n : ℕ) → n < w.state.mount.volume.sequential → row_at (fill f.seq (seq_rows (file_zones f.report))) n ≡ Good (shown_row (zone_of w n))
+    fresh_row : (n : ℕ) → n < w.state.mount.volume.sequential → row_at (fill f.seq (seq_rows (file_zones f.report))) n ≡ Ok (shown_row (zone_of w n))
     unfolding file_zones
     fresh_row n l =
         let inside : n < length (seq_rows (drop 1 (zones_of f.report))) = omega (arith, l, seq_count invariant.files seen.zones) in
-        (fill-listed f.seq (seq_rows (drop 1 (zones_of f.report))) again.seq_fit).row n inside ∙ ap Good (file_shown invariant.files seen.zones n l).row
+        (fill-listed f.seq (seq_rows (drop 1 (zones_of f.report))) again.seq_fit).row n inside ∙ ap Ok (file_shown invariant.files seen.zones n l).row
 
     compares : (n : ℕ) → n < w.state.mount.volume.sequential → outstanding_on w.state Sequential n ≡ Idle → (history_of w n).quiet ≡ true
         → Compares (policy_of (options_of h.options)) (history_of w n) (zone_of w n) (fill f.seq (seq_rows (file_zones f.report))) w.state.seq n

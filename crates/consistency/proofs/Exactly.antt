@@ -1,6 +1,7 @@
 -- "a held command that no call on its file, with row and mount as they are but nothing held, would issue": `issuable` says exactly that
 -- there is such a call, the read-only mark aside, as 02 has it, on the file "as its file stood before that call, account and limits aside".
 -- Assumes nothing.
+use Rattle.std.specs.Prelude.{Ok}
 use mathlib.Core.Path.{◌≡◌, refl, sym, ap, ◌∙◌, subst}
 use mathlib.Core.Bool.{Bool, true, false, ◌&&◌}
 use Rattle.types.specs.declared.Account.{Account}
@@ -12,8 +13,7 @@ use Rattle.types.specs.declared.Command.{Command}
 use Rattle.types.specs.declared.Call.{Call}
 use Rattle.types.specs.declared.Outstanding.TheVariants.{Idle}
 use Rattle.types.specs.declared.Refusal.TheVariants.{OpenLimit, ActiveLimit}
-use Rattle.types.specs.declared.Verdict.TheVariants.{Passed}
-use Rattle.types.specs.declared.Answer.TheVariants.{Issue}
+use Rattle.types.specs.declared.Granted.TheVariants.{Issue}
 use Rattle.types.proofs.VerdictLaws.{check_passes, after-passes}
 use Rattle.types.proofs.Tests.{cases}
 use Rattle.table.specs.Rows.{cleared, with_opens}
@@ -34,7 +34,7 @@ and_none true true = refl
 and_none true false = refl
 and_none false b = refl
 
-no_limits : (explicit : Bool) (k : FileKind) (r : Row) (x : Call) → limits_of explicit limitless k r x ≡ Passed
+no_limits : (explicit : Bool) (k : FileKind) (r : Row) (x : Call) → limits_of explicit limitless k r x ≡ Ok tt
 unfolding limit_check
 no_limits explicit k r x =
     cases (opens_file k x)
@@ -56,7 +56,7 @@ module _ (v : Volume) (k : FileKind) (r : Row) (c : Command) where
     pub sound : openable before ≡ true
     pub call : Call
     pub leaves : called k call before ≡ r
-    pub issues : on_row unmarked k (cleared before) call ≡ Issue c
+    pub issues : on_row unmarked k (cleared before) call ≡ Ok (Issue c)
 
   as_row : (q : Row) (x : Call) → on_row unmarked k (cleared q) x ≡ answer_on v.explicit v.block k q x
   as_row q x =

@@ -1,5 +1,6 @@
 -- What is possible stays possible over each call and each completion.
 -- Assumes nothing.
+use Rattle.std.specs.Prelude.{Ok, Err, Some, None}
 use Prim.Native.Nat.{ℕ, ◌≤◌, ◌<◌}
 use native.Mathlib.Omega.{arith}
 use mathlib.Core.Path.{◌≡◌, refl, sym, ap, ◌∙◌, subst}
@@ -17,14 +18,11 @@ use Rattle.types.specs.declared.Command.{Command}
 use Rattle.types.specs.declared.Refusal.TheVariants as refusal
 use Rattle.types.specs.declared.Access.{Access}
 use Rattle.types.specs.declared.Access.TheVariants as access
-use Rattle.types.specs.declared.Verdict.{Verdict}
-use Rattle.types.specs.declared.Verdict.TheVariants.{Passed}
-use Rattle.types.specs.declared.Verdict.TheVariants as verdict
-use Rattle.types.specs.declared.Answer.{Answer}
-use Rattle.types.specs.declared.Answer.TheVariants.{Refused, Done, Issue}
+use Rattle.types.specs.Answers.{Verdict}
+use Rattle.types.specs.Answers.{Answer}
+use Rattle.types.specs.declared.Granted.TheVariants.{Done, Issue}
 use Rattle.types.specs.declared.Effect.{Effect}
-use Rattle.types.specs.declared.Store.{Store}
-use Rattle.types.specs.declared.Store.TheVariants as store
+use Rattle.types.specs.Answers.{Store}
 use Rattle.types.specs.declared.Outstanding.{Outstanding}
 use Rattle.types.specs.declared.Outstanding.TheVariants.{Idle, Busy}
 use Rattle.types.specs.Codes.{kind_from}
@@ -35,8 +33,7 @@ use Rattle.types.specs.Verdicts.{answer_after}
 use Rattle.types.proofs.PredicateLaws.{idle_is}
 use Rattle.types.proofs.VerdictLaws.{check_passed}
 use Rattle.types.proofs.Blocks.{IsBlock, is_block}
-use Rattle.table.specs.declared.Slot.{Slot}
-use Rattle.table.specs.declared.Slot.TheVariants.{Good}
+use Rattle.table.specs.Rows.{Slot}
 use Rattle.table.specs.Rows.{rows_lent, row_at, stored, with_outstanding, cleared}
 use Rattle.table.proofs.Stores.{stored-length, stored_row, of_stored}
 use Rattle.zones.specs.declared.Zone.{Zone}
@@ -50,8 +47,7 @@ use Rattle.decision.specs.Decision.{unwritable, open_row, answer_on, dispatched,
 use Rattle.decision.proofs.Laws.{open_checked, dispatch_passed}
 use Rattle.calls.specs.Calls as calls
 use Rattle.calls.proofs.Laws.{call_cases, row_passed, effect_keeps, effect_stays}
-use Rattle.held.specs.declared.Pending.{Pending}
-use Rattle.held.specs.declared.Pending.TheVariants as pending
+use Rattle.held.specs.Held.{Pending}
 use Rattle.held.specs.Held.{hold_of, pending_of}
 use Rattle.held.specs.Facts.{Ready, PendingTells}
 use Rattle.held.proofs.Issuable.{issuable-complete, issuable_held}
@@ -69,7 +65,7 @@ use Rattle.consistency.proofs.SoundRows.{sound_opens, success_sound, recovered_s
 use Rattle.consistency.specs.Possible.{IsFile, HeldPossible, Possible}
 
 -- A FILE passes 10 (counts), 1 and 10 (row).
-file_counted : {s : State} → Possible s → (k : FileKind) (n : ℕ) (r : Row) → IsFile s k n → row_at (of_kind k s.cnv s.seq) n ≡ Good r → counted s.mount k r ≡ true
+file_counted : {s : State} → Possible s → (k : FileKind) (n : ℕ) (r : Row) → IsFile s k n → row_at (of_kind k s.cnv s.seq) n ≡ Ok r → counted s.mount k r ≡ true
 unfolding counted
 file_counted p Conventional n r h e = refl
 file_counted {s} p Sequential n r h e = true_counts s.mount s.seq p.account n r h e
@@ -84,7 +80,7 @@ pub held_reached : {s : State} → Possible s → (k : FileKind) (n : ℕ) (r : 
     → HeldPossible s.mount.volume k r r.outstanding
 held_reached {s} p k n r w =
     let q = p.rows k n w.number in
-    let g : Good q.row ≡ Good r = sym q.reads ∙ w.row in
+    let g : Ok q.row ≡ Ok r = sym q.reads ∙ w.row in
     let same : q.row ≡ r = cc in
     subst (λ (x : Row). HeldPossible s.mount.volume k x x.outstanding) same q.held
 
@@ -96,20 +92,20 @@ possible_ready {s} p k n c r w e =
 
 -- AN ANSWER THAT IS NO REFUSAL: its checks were passed
 abbrev Taken : Answer → Type 0
-Taken (Refused y) = ⊥
-Taken (Done count) = Unit
-Taken (Issue c) = Unit
+Taken (Err y) = ⊥
+Taken (Ok (Done count)) = Unit
+Taken (Ok (Issue c)) = Unit
 
-after_taken : (v : Verdict) (a : Answer) → Taken (answer_after v a) → (v ≡ Passed) × Taken a
+after_taken : (v : Verdict) (a : Answer) → Taken (answer_after v a) → (v ≡ Ok tt) × Taken a
 unfolding answer_after
-after_taken Passed a t = (refl, t)
-after_taken (verdict.Refused y) a t = absurd t
+after_taken (Ok tt) a t = (refl, t)
+after_taken (Err y) a t = absurd t
 
 limited_taken : (v : Verdict) (a : Answer) → Taken (limited v a) → Taken a
 unfolding limited
-limited_taken v (Refused y) t = t
-limited_taken v (Done count) t = tt
-limited_taken v (Issue c) t = tt
+limited_taken v (Err y) t = t
+limited_taken v (Ok (Done count)) t = tt
+limited_taken v (Ok (Issue c)) t = tt
 
 row_taken : (m : Mount) (k : FileKind) (r : Row) (x : Call) → Taken (calls.on_row m k r x) → (r.outstanding ≡ Idle) × Taken (answer_on m.volume.explicit m.volume.block k r x)
 unfolding dispatched
@@ -139,8 +135,8 @@ called-openable explicit block Sequential r Call.Close sure t h = let some : 0 <
 -- a call that is answered at once, and counts or doesn't
 abbrev pub answering : Mount → FileKind → ℕ → Row → Call → ℕ → Bool → Effect
 answering m k n r x count t = record {
-  outcome = record { answer = Done count; mount = cond t (accounted m k r (called k x r)) m };
-  store = cond t (store.Put k n (called k x r)) store.Nothing;
+  outcome = record { answer = Ok (Done count); mount = cond t (accounted m k r (called k x r)) m };
+  store = cond t (Some (k, n, called k x r)) None;
 }
 
 -- WHAT IS OUTSTANDING makes no row unsound.
@@ -153,12 +149,12 @@ abbrev Fine : Volume → FileKind → Row → Type 0
 Fine v k r = (sound_row v.block k r ≡ true) × HeldPossible v k r r.outstanding
 
 abbrev FineStore : Volume → Store → Type 0
-FineStore v store.Nothing = Unit
-FineStore v (store.Put k i r) = (i < files_of k v) × Fine v k r
+FineStore v None = Unit
+FineStore v (Some (k, i, r)) = (i < files_of k v) × Fine v k r
 
 -- a file's words are a possible row
 abbrev Rowed : Volume → FileKind → Slot → Type 0
-Rowed v k x = (r : Row) × ((x ≡ Good r) × Fine v k r)
+Rowed v k x = (r : Row) × ((x ≡ Ok r) × Fine v k r)
 
 module _ {s : State} (p : Possible s) where
   fine_row : (k : FileKind) (n : ℕ) → IsFile s k n → Rowed s.mount.volume k (row_at (of_kind k s.cnv s.seq) n)
@@ -170,8 +166,8 @@ module _ {s : State} (p : Possible s) where
 
   fine_stored : (x : Store) → FineStore s.mount.volume x → (k : FileKind) (n : ℕ) → IsFile s k n
       → Rowed s.mount.volume k (row_at (stored k x (of_kind k s.cnv s.seq)) n)
-  fine_stored store.Nothing w k n h = fine_row k n h
-  fine_stored (store.Put j i r) (known, fine) k n h =
+  fine_stored None w k n h = fine_row k n h
+  fine_stored (Some (j, i, r)) (known, fine) k n h =
       let v = s.mount.volume in
       stored_row (Rowed v k) j i r k n (of_kind k s.cnv s.seq) (lent j k i known)
       (λ e q. (r, (refl, subst (λ y. Fine v y r) e fine))) (fine_row k n h)
@@ -207,15 +203,15 @@ module _ {s : State} (p : Possible s) where
     v = s.mount.volume
 
     -- the row that it leaves, with this outstanding
-    called_fine : (o : Outstanding) → Taken (calls.on_row s.mount k r x) → HeldPossible v k (with_outstanding (called k x r) o) o → FineStore v (store.Put k n (with_outstanding (called k x r) o))
+    called_fine : (o : Outstanding) → Taken (calls.on_row s.mount k r x) → HeldPossible v k (with_outstanding (called k x r) o) o → FineStore v (Some (k, n, with_outstanding (called k x r) o))
     called_fine o t h =
         let s1 = reached_sound s.mount s.cnv s.seq k n r w in
         let s2 = sound_opens s1 (opens_after k x r.opens) (called-openable v.explicit v.block k r x s1.openable (row_taken s.mount k r x t).1) in
         (w.number, (held_sound v.block k (called k x r) o ∙ row_sound v.block k (called k x r) s2, h))
 
     row_possible : (a : Answer) → calls.on_row s.mount k r x ≡ a → Kept (calls.settled s.mount k n r x a) → Possible (applied s (calls.settled s.mount k n r x a))
-    row_possible (Refused y) e kept = p
-    row_possible (Done count) e kept = by (counts k x) kept
+    row_possible (Err y) e kept = p
+    row_possible (Ok (Done count)) e kept = by (counts k x) kept
       where
         answered : Taken (calls.on_row s.mount k r x)
         answered = subst Taken (sym e) tt
@@ -226,7 +222,7 @@ module _ {s : State} (p : Possible s) where
         by : (t : Bool) → Kept (answering s.mount k n r x count t) → Possible (applied s (answering s.mount k n r x count t))
         by true kept = settled-possible _ kept (called_fine r.outstanding answered idle)
         by false kept = p
-    row_possible (Issue c) e kept =
+    row_possible (Ok (Issue c)) e kept =
         let (idle, (within, g)) = row_passed s.mount s.cnv s.seq k n x r c e in
         let (mark, issued) = dispatch_passed s.mount.readonly v.explicit v.block k r x c g in
         let sure = sound_openable v.block k r w.sound in
@@ -253,7 +249,7 @@ module _ {s : State} (p : Possible s) where
     issue : Issued block h.kind r h.command
     issue = issuable_tells s.mount.volume.explicit block h.kind r h.command w.issued
 
-    cleared_fine : (q : Row) → SoundRow block h.kind q → FineStore s.mount.volume (store.Put h.kind h.number (cleared q))
+    cleared_fine : (q : Row) → SoundRow block h.kind q → FineStore s.mount.volume (Some (h.kind, h.number, cleared q))
     cleared_fine q u = (w.reached.number, (held_sound block h.kind q Idle ∙ row_sound block h.kind q u, tt))
 
     done-possible : Kept (succeeded s.mount h r) → Possible (applied s (succeeded s.mount h r))
@@ -291,8 +287,8 @@ module _ {s : State} (p : Possible s) where
       })
     where
       by : (q : Pending) → PendingTells s.mount s.cnv s.seq k n q → Kept (effect_pending s.mount q x) → Possible (applied s (effect_pending s.mount q x))
-      by (pending.On h r) (w, named) kept = effect_possible h r w x kept
-      by (pending.Refused y) w kept = p
+      by (Ok (h, r)) (w, named) kept = effect_possible h r w x kept
+      by (Err y) w kept = p
 
   pub input_possible : (x : Input) → Possible (applied s (effect_of s x))
   input_possible (call kind n x) = call_by s.mount s.cnv s.seq (λ d. Possible (applied s d)) kind n x (λ e. call_possible (kind_from kind) n x) p

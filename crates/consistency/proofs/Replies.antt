@@ -1,5 +1,6 @@
 -- Past 10 (counts), 1 and 10 (row) no call is answered 1 or 10; and from what is possible every file gets there, and no completion is answered 10.
 -- Assumes nothing.
+use Rattle.std.specs.Prelude.{Ok, Err, Some, None}
 use Prim.Native.Nat.{ℕ}
 use native.Mathlib.Omega.{arith}
 use mathlib.Core.Path.{◌≡◌, refl, subst}
@@ -13,10 +14,9 @@ use Rattle.types.specs.declared.FileKind.{FileKind}
 use Rattle.types.specs.declared.FileKind.TheVariants.{Conventional, Sequential}
 use Rattle.types.specs.declared.Refusal.{Refusal}
 use Rattle.types.specs.declared.Refusal.TheVariants as refusal
-use Rattle.types.specs.declared.Verdict.{Verdict}
-use Rattle.types.specs.declared.Verdict.TheVariants as verdict
-use Rattle.types.specs.declared.Answer.{Answer}
-use Rattle.types.specs.declared.Answer.TheVariants.{Refused, Done, Issue}
+use Rattle.types.specs.Answers.{Verdict}
+use Rattle.types.specs.Answers.{Answer}
+use Rattle.types.specs.declared.Granted.TheVariants.{Done, Issue}
 use Rattle.types.specs.declared.Outstanding.{Outstanding}
 use Rattle.types.specs.declared.Outstanding.TheVariants.{Idle, Busy, Unknown}
 use Rattle.types.specs.declared.Call.{Call}
@@ -25,8 +25,7 @@ use Rattle.types.specs.Effects.{refusing}
 use Rattle.types.specs.Numbers.{verdict_number, refusal_number, answer_number}
 use Rattle.types.specs.Verdicts.{refuse, answer_after}
 use Rattle.account.specs.Account.{limit_check}
-use Rattle.checks.specs.declared.Lookup.{Lookup}
-use Rattle.checks.specs.declared.Lookup.TheVariants as lookup
+use Rattle.checks.specs.Checks.{Lookup}
 use Rattle.checks.specs.Checks.{lookup_of}
 use Rattle.checks.specs.Facts.{Reached}
 use Rattle.checks.proofs.Laws.{lookup_some, file_none}
@@ -54,7 +53,7 @@ record Harmless (v : Verdict) : Type 0 where
 
 -- THE STEPS of a chain
 
-passed : Harmless verdict.Passed
+passed : Harmless (Ok tt)
 passed = record { found = λ e. omega arith; possible = λ e. omega arith }
 
 after : {v : Verdict} {a : Answer} → Harmless v → Ordinary a → Ordinary (answer_after v a)
@@ -62,8 +61,8 @@ unfolding answer_after
 after {v} {a} o p = by v o
   where
     by : (v : Verdict) → Harmless v → Ordinary (answer_after v a)
-    by verdict.Passed o = p
-    by (verdict.Refused x) o = record { found = o.found; possible = o.possible }
+    by (Ok tt) o = p
+    by (Err x) o = record { found = o.found; possible = o.possible }
 
 -- a refusal by another number
 refused : {v : Verdict} (t : Bool) (x : Refusal) → refusal_number x ≢ no_file → refusal_number x ≢ impossible → Harmless v → Harmless (refuse t x v)
@@ -71,16 +70,16 @@ unfolding refuse
 refused true x f p o = record { found = f; possible = p }
 refused false x f p o = o
 
-issued : (c : Command) → Ordinary (Issue c)
+issued : (c : Command) → Ordinary (Ok (Issue c))
 issued c = record { found = λ e. omega arith; possible = λ e. omega arith }
 
-once : (t : Bool) (c : Command) → Ordinary (at_once t (Issue c))
+once : (t : Bool) (c : Command) → Ordinary (at_once t (Ok (Issue c)))
 unfolding at_once
 once true c = record { found = λ e. omega arith; possible = λ e. omega arith }
 once false c = issued c
 
 -- a count, at once
-answered : (count : ℕ) → Ordinary (Done count)
+answered : (count : ℕ) → Ordinary (Ok (Done count))
 answered count = record { found = λ e. omega arith; possible = λ e. omega arith }
 
 -- 4, 5 and 6 on a row, and 13 and 14
@@ -116,7 +115,7 @@ limits_harmless : (explicit : Bool) (a : Account) (k : FileKind) (r : Row) (x : 
 unfolding limit_check
 limits_harmless explicit a k r x = by (opens_file k x)
   where
-    by : (t : Bool) → Harmless (cond t (limit_check explicit a r (called k x r)) verdict.Passed)
+    by : (t : Bool) → Harmless (cond t (limit_check explicit a r (called k x r)) (Ok tt))
     by true =
         refused _ refusal.OpenLimit (λ e. omega arith) (λ e. omega arith)
         (refused _ refusal.ActiveLimit (λ e. omega arith) (λ e. omega arith) passed)
@@ -124,9 +123,9 @@ limits_harmless explicit a k r x = by (opens_file k x)
 
 within : {v : Verdict} (a : Answer) → Harmless v → Ordinary a → Ordinary (limited v a)
 unfolding limited
-within (Refused y) o p = p
-within (Done count) o p = after o p
-within (Issue c) o p = after o p
+within (Err y) o p = p
+within (Ok (Done count)) o p = after o p
+within (Ok (Issue c)) o p = after o p
 
 call_ordinary : (m : Mount) (k : FileKind) (r : Row) (x : Call) → Ordinary (calls.on_row m k r x)
 unfolding dispatched
@@ -165,8 +164,8 @@ module _ {s : State} (p : Possible s) where
   call_answer k n x = by (lookup_of s.mount.volume s.cnv s.seq k n) refl
     where
       by : (y : Lookup) → lookup_of s.mount.volume s.cnv s.seq k n ≡ y → answer_number (calls.effect_of s.mount s.cnv s.seq k n x).outcome.answer ≢ impossible
-      by (lookup.Found y) e = (file_ordinary k n x (lookup_some s.mount.volume s.cnv s.seq k n y e)).possible
-      by lookup.Nothing e = rw (file_none s.mount s.cnv s.seq k n p.counts e) (λ q. omega arith)
+      by (Some y) e = (file_ordinary k n x (lookup_some s.mount.volume s.cnv s.seq k n y e)).possible
+      by None e = rw (file_none s.mount s.cnv s.seq k n p.counts e) (λ q. omega arith)
 
   -- a completion of a file's command
   file_answer : (k : FileKind) (n : ℕ) (x : Completion) (r : Row) → Reached s.mount s.cnv s.seq k n r → (o : Outstanding) → r.outstanding ≡ o
@@ -185,5 +184,5 @@ module _ {s : State} (p : Possible s) where
   completion_answer k n x = by (lookup_of s.mount.volume s.cnv s.seq k n) refl
     where
       by : (y : Lookup) → lookup_of s.mount.volume s.cnv s.seq k n ≡ y → answer_number (completions.effect_of s.mount s.cnv s.seq k n x).outcome.answer ≢ impossible
-      by (lookup.Found y) e = (completion_ordinary k n x (lookup_some s.mount.volume s.cnv s.seq k n y e)).possible
-      by lookup.Nothing e = rw (effect_none s.mount s.cnv s.seq k n x p.counts e) (λ q. omega arith)
+      by (Some y) e = (completion_ordinary k n x (lookup_some s.mount.volume s.cnv s.seq k n y e)).possible
+      by None e = rw (effect_none s.mount s.cnv s.seq k n x p.counts e) (λ q. omega arith)

@@ -1,5 +1,6 @@
 -- Every truthful event keeps the invariant of the system, and no truthful completion is answered 1, 8, 9 or 10.
 -- Assumes nothing.
+use Rattle.std.specs.Prelude.{Ok, Err, Some, None}
 use mathlib.Core.Bool.{Bool, true, false, not, cond, ◌&&◌, ◌||◌}
 use mathlib.Core.List.{List, [], ◌∷◌}
 use mathlib.Core.Path.{◌≡◌, refl, sym, ap, ◌∙◌, subst}
@@ -15,25 +16,22 @@ use Rattle.types.specs.declared.FileKind.{FileKind}
 use Rattle.types.specs.declared.FileKind.TheVariants.{Conventional, Sequential}
 use Rattle.types.specs.declared.ErrorPolicy.{ErrorPolicy}
 use Rattle.types.specs.declared.Refusal.TheVariants as refusal
-use Rattle.types.specs.declared.Answer.{Answer}
-use Rattle.types.specs.declared.Answer.TheVariants.{Refused, Done, Issue}
-use Rattle.types.specs.declared.Store.TheVariants as store
+use Rattle.types.specs.Answers.{Answer, Store}
+use Rattle.types.specs.declared.Granted.TheVariants.{Done, Issue}
 use Rattle.types.specs.Codes.{kind_from}
 use Rattle.types.specs.declared.Outstanding.{Outstanding}
 use Rattle.types.specs.declared.Outstanding.TheVariants.{Idle, Busy, Unknown}
 use Rattle.types.specs.Kinds.{of_kind, files_of}
 use Rattle.types.proofs.Tests.{and_left, and_right}
 use Rattle.types.proofs.Blocks.{IsBlock}
-use Rattle.table.specs.declared.Slot.TheVariants.{Good}
-use Rattle.table.specs.Rows.{row_at, stored, with_outstanding, with_opens, cleared}
-use Rattle.checks.specs.declared.Lookup.{Lookup}
-use Rattle.checks.specs.declared.Lookup.TheVariants as lookup
+use Rattle.table.specs.Rows.{Slot, row_at, stored, with_outstanding, with_opens, cleared}
+use Rattle.checks.specs.Checks.{Lookup}
 use Rattle.checks.specs.Checks.{lookup_of}
 use Rattle.checks.specs.Facts.{Reached}
 use Rattle.checks.proofs.Laws.{lookup_some, reached_lent, reached_sound}
 use Rattle.calls.specs.Calls as calls
 use Rattle.calls.proofs.Laws.{call_cases, effect_keeps}
-use Rattle.decision.specs.Decision.{counts, opens_after, called}
+use Rattle.decision.specs.Decision.{counts, opens_after}
 use Rattle.zones.specs.declared.Zone.{Zone}
 use Rattle.zones.specs.Zone.{zone_bytes, zone_at}
 use Rattle.types.specs.declared.Effect.{Effect}
@@ -80,7 +78,7 @@ pub record Invariant (v : Volume) (ks : List FileKind) (w : System) : Type 0 whe
 
 -- the row of a file is listed
 listed_row : {v : Volume} {ks : List FileKind} {w : System} (r : Invariant v ks w) (k : FileKind) (n : ℕ) → n < files_of k w.state.mount.volume
-    → row_at (of_kind k w.state.cnv w.state.seq) n ≡ Good (get_or (of_kind k r.plain r.rows) n no_row)
+    → row_at (of_kind k w.state.cnv w.state.seq) n ≡ Ok (get_or (of_kind k r.plain r.rows) n no_row)
 listed_row r Conventional n h = r.plainly.row n h
 listed_row r Sequential n h = r.listed.row n h
 
@@ -89,7 +87,7 @@ row_reached : {v : Volume} {ks : List FileKind} {w : System} (r : Invariant v ks
     → Reached w.state.mount w.state.cnv w.state.seq k n (get_or (of_kind k r.plain r.rows) n no_row)
 row_reached {w = w} r k n h =
     let (q, x) = possible_call r.possible k n h in
-    let g : Good q ≡ Good (get_or (of_kind k r.plain r.rows) n no_row) = sym x.row ∙ listed_row r k n h in
+    let g : ◌≡◌ {A = Slot} (Ok q) (Ok (get_or (of_kind k r.plain r.rows) n no_row)) = sym x.row ∙ listed_row r k n h in
     let same : q ≡ get_or (of_kind k r.plain r.rows) n no_row = cc in
     subst (Reached w.state.mount w.state.cnv w.state.seq k n) same x
 
@@ -100,7 +98,7 @@ module _ {v : Volume} {ks : List FileKind} {w : System} (r : Invariant v ks w) w
 
   -- a row is stored with other opens, on which something else is outstanding
   beside_stored : (k : FileKind) (n m : ℕ) (o : Outstanding) (d : Effect) → n < files_of k w.state.mount.volume → d.outcome.mount.volume ≡ w.state.mount.volume
-      → d.store ≡ store.Put k n (with_outstanding (with_opens (get_or (of_kind k r.plain r.rows) n no_row) m) o) → Possible (applied w.state d) → After d
+      → d.store ≡ Some (k, n, with_outstanding (with_opens (get_or (of_kind k r.plain r.rows) n no_row) m) o) → Possible (applied w.state d) → After d
   beside_stored Sequential n m o d h same put possible =
       let q = with_outstanding (with_opens (get_or r.rows n no_row) m) o in
       let lent = reached_lent w.state.mount w.state.cnv w.state.seq Sequential n (get_or r.rows n no_row) (row_reached r Sequential n h) in
@@ -134,23 +132,26 @@ module _ {v : Volume} {ks : List FileKind} {w : System} (r : Invariant v ks w) w
 
   -- what a call does to its row
   module _ (k : FileKind) (n : ℕ) (x : Call) (q : Row) (h : n < files_of k w.state.mount.volume) (e : q ≡ get_or (of_kind k r.plain r.rows) n no_row) where
-    beside : (o : Outstanding) → store.Put k n (with_outstanding (called k x q) o) ≡ store.Put k n (with_outstanding (with_opens (get_or (of_kind k r.plain r.rows) n no_row) (opens_after k x q.opens)) o)
-    beside o = ap (λ (y : Row). store.Put k n (with_outstanding (with_opens y (opens_after k x q.opens)) o)) e
+    abbrev storing : Outstanding → Row → Store
+    storing o y = Some (k, n, with_outstanding (with_opens y (opens_after k x q.opens)) o)
+
+    beside : (o : Outstanding) → storing o q ≡ storing o (get_or (of_kind k r.plain r.rows) n no_row)
+    beside o = ap (storing o) e
 
     row_called : (a : Answer) → let d = calls.settled w.state.mount k n q x a in d.outcome.mount.volume ≡ w.state.mount.volume → Possible (applied w.state d) → After d
-    row_called (Refused y) same p = r
-    row_called (Done count) same p = by (counts k x) same p
+    row_called (Err y) same p = r
+    row_called (Ok (Done count)) same p = by (counts k x) same p
       where
         by : (t : Bool) → let d = answering w.state.mount k n q x count t in d.outcome.mount.volume ≡ w.state.mount.volume → Possible (applied w.state d) → After d
         by true same p = beside_stored k n (opens_after k x q.opens) q.outstanding (answering w.state.mount k n q x count true) h same (beside q.outstanding) p
         by false same p = r
-    row_called (Issue c) same p = beside_stored k n (opens_after k x q.opens) (Busy c) (calls.settled w.state.mount k n q x (Issue c)) h same (beside (Busy c)) p
+    row_called (Ok (Issue c)) same p = beside_stored k n (opens_after k x q.opens) (Busy c) (calls.settled w.state.mount k n q x (Ok (Issue c))) h same (beside (Busy c)) p
 
   file_called : (k : FileKind) (n : ℕ) (x : Call) → After (calls.effect_of w.state.mount w.state.cnv w.state.seq k n x)
   file_called k n x =
       call_cases w.state.mount w.state.cnv w.state.seq k n x (λ d. d.outcome.mount.volume ≡ w.state.mount.volume → Possible (applied w.state d) → After d)
       (λ q u. row_called k n x q u.number
-      (let g : Good q ≡ Good (get_or (of_kind k r.plain r.rows) n no_row) = sym u.row ∙ listed_row r k n u.number in cc)
+      (let g : ◌≡◌ {A = Slot} (Ok q) (Ok (get_or (of_kind k r.plain r.rows) n no_row)) = sym u.row ∙ listed_row r k n u.number in cc)
       (calls.on_row w.state.mount k q x))
       (λ y f same p. r) (effect_keeps w.state.mount w.state.cnv w.state.seq k n x).0.0 (call_possible r.possible k n x)
 
@@ -219,7 +220,7 @@ failure_told given bytes e = rw (eq-eqb _ _ e)
 
 -- the answer to a truthful completion: the count, or 7 with the new size
 abbrev pub replied : Bool → Command → Row → Answer
-replied t c r = cond t (Done c.length) (Refused (refusal.Failed r.size))
+replied t c r = cond t (Ok (Done c.length)) (Err (refusal.Failed r.size))
 
 module _ {v : Volume} {ks : List FileKind} {w : System} (r : Invariant v ks w) (k : FileKind) (n : ℕ) (c : Command) (e : outstanding_on w.state k n ≡ Busy c) where
   abbrev row : Row
@@ -371,11 +372,11 @@ module _ {v : Volume} {ks : List FileKind} {w : System} (r : Invariant v ks w) w
   file_stray k n x e = by (lookup_of w.state.mount.volume w.state.cnv w.state.seq k n) refl
     where
       by : (y : Lookup) → lookup_of w.state.mount.volume w.state.cnv w.state.seq k n ≡ y → After r (effect_of w.state.mount w.state.cnv w.state.seq k n x)
-      by (lookup.Found y) f =
+      by (Some y) f =
           let known = lookup_some w.state.mount.volume w.state.cnv w.state.seq k n y f in
           let row = get_or (of_kind k r.plain r.rows) n no_row in
           rw (effect_idle w.state.mount w.state.cnv w.state.seq k n row x (row_reached r k n known) (sym (row_on w.state k n row known (listed_row r k n known)) ∙ e)) r
-      by lookup.Nothing f = rw (effect_none w.state.mount w.state.cnv w.state.seq k n x r.possible.counts f) r
+      by None f = rw (effect_none w.state.mount w.state.cnv w.state.seq k n x r.possible.counts f) r
 
   invariant_stray : (kind n : ℕ) (x : Completion) → Invariant v ks (step w (stray kind n x))
   unfolding step engine.step

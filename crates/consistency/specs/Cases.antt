@@ -6,7 +6,7 @@ use Rattle.types.specs.declared.FileKind.TheVariants.{Sequential}
 use Rattle.types.specs.declared.ErrorPolicy.{ErrorPolicy}
 use Rattle.types.specs.declared.ErrorPolicy.TheVariants.{RemountRo, ZoneRo, ZoneOffline, Repair}
 use Rattle.types.specs.declared.Call.{Call}
-use Rattle.types.specs.declared.Answer.{Answer}
+use Rattle.types.specs.Answers.{Answer}
 use Rattle.types.specs.Codes.{flag_code, kind_code}
 use Rattle.types.specs.Numbers.{answer_number, answer_values, mount_number, mount_values}
 use Rattle.types.specs.Stated.{Case, is, AsStated}

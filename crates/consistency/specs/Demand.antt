@@ -1,5 +1,5 @@
 -- DEMAND 3, from bytes to bytes, and what stands beside it.
-use Rattle.std.specs.Prelude.{Bool, true, cond, List, ◌≢◌, ◌≡◌, ℕ, ◌<◌, length, get_or}
+use Rattle.std.specs.Prelude.{Bool, true, cond, List, ◌≢◌, ◌≡◌, ℕ, ◌<◌, length, get_or, Ok}
 use Rattle.types.specs.declared.Row.{Row}
 use Rattle.types.specs.declared.Command.{Command}
 use Rattle.types.specs.declared.Call.{Call}
@@ -8,7 +8,6 @@ use Rattle.types.specs.declared.FileKind.TheVariants.{Sequential}
 use Rattle.types.specs.declared.ErrorPolicy.{ErrorPolicy}
 use Rattle.types.specs.Codes.{is_kind, kind_from}
 use Rattle.types.specs.Numbers.{mount_number, answer_number}
-use Rattle.table.specs.declared.Slot.TheVariants.{Good}
 use Rattle.table.specs.Rows.{row_at}
 use Rattle.options.specs.Options.{options_of}
 use Rattle.mount.specs.Mount.{Mounting, mount_outcome, policy_of}
@@ -66,8 +65,8 @@ fresh_mount h f = mount_outcome h.block h.superblock h.options f.report h.open_l
 pub record Compares (p : ErrorPolicy) (h : FileHistory) (z : DiskZone) (fresh now : List ℕ) (n : ℕ) : Type 0 where
   pub row : Row
   pub other : Row
-  pub here : row_at now n ≡ Good row
-  pub there : row_at fresh n ≡ Good other
+  pub here : row_at now n ≡ Ok row
+  pub there : row_at fresh n ≡ Ok other
   pub promised : AsPromised p h z other row
 
 -- what a system s and a fresh mount o under an option have in common

@@ -1,17 +1,16 @@
 -- Number 10, "mount value or tables impossible": what is possible, and that it stays possible. So from a mount answered 0 nothing is ever
 -- answered 10, and nothing about a file that there is is answered 1: whatever is called, and whatever the disk tells, the truth or not.
-use Rattle.std.specs.Prelude.{ℕ, ◌<◌, ◌≡◌, ◌≢◌, true, List, [], ◌∷◌, length}
+use Rattle.std.specs.Prelude.{ℕ, ◌<◌, ◌≡◌, ◌≢◌, true, List, [], ◌∷◌, length, Ok}
 use Rattle.types.specs.declared.Volume.{Volume}
 use Rattle.types.specs.declared.Row.{Row}
 use Rattle.types.specs.declared.FileKind.{FileKind}
-use Rattle.types.specs.declared.Answer.{Answer}
+use Rattle.types.specs.Answers.{Answer}
 use Rattle.types.specs.declared.Refusal.TheVariants as refusal
 use Rattle.types.specs.declared.Outstanding.{Outstanding}
 use Rattle.types.specs.declared.Outstanding.TheVariants.{Idle, Busy, Unknown}
 use Rattle.types.specs.Codes.{is_kind, kind_from}
 use Rattle.types.specs.Kinds.{of_kind, files_of}
 use Rattle.types.specs.Numbers.{refusal_number, answer_number, mount_number}
-use Rattle.table.specs.declared.Slot.TheVariants.{Good}
 use Rattle.table.specs.Rows.{row_at}
 use Rattle.mount.specs.Mount.{mount_outcome}
 use Rattle.account.specs.Counts.{TrueCounts}
@@ -36,7 +35,7 @@ HeldPossible v k r Unknown = ⊥
 -- its row is one, breaks no rule, and holds nothing that it can't
 pub record RowPossible (s : State) (k : FileKind) (n : ℕ) : Type 0 where
   pub row : Row
-  pub reads : row_at (of_kind k s.cnv s.seq) n ≡ Good row
+  pub reads : row_at (of_kind k s.cnv s.seq) n ≡ Ok row
   pub sound : sound_row s.mount.volume.block k row ≡ true
   pub held : HeldPossible s.mount.volume k row row.outstanding
 

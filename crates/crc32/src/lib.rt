@@ -46,13 +46,14 @@ fn next(table: &[u32; 256], crc: u32, byte: u8) -> u32
 }
 
 // The register `crc` after the bytes of `b`, one at a time.
+#[tactic(auto, using(crate::proofs::Fold::crc_none, crate::proofs::Fold::crc_more))]
 fn carry(table: &[u32; 256], crc: u32, b: &[u8]) -> u32
     requires { Ruled table.now }
     ensures { result ≡ crc_from crc b.now }
 {
     let mut sum = crc;
-    for i in 0..b.len() {
-        sum = next(table, sum, b[i]);
+    for &byte in b {
+        sum = next(table, sum, byte);
     }
     sum
 }
@@ -63,11 +64,10 @@ fn next_eight(tables: &[[u32; 256]; 8], crc: u32, word: u64) -> u32
     requires { AllRuled tables.now }
     ensures { result ≡ crc_from crc (little 8 word) }
 {
-    let mixed = (crc as u64) ^ word;
+    let mixed = ((crc as u64) ^ word).to_le_bytes();
     let mut sum = 0;
-    for t in 0..8 {
-        let byte = (mixed >> (56 - 8 * t)) % 256;
-        sum ^= tables[t][byte as usize];
+    for (table, &byte) in tables.iter().zip(mixed.iter().rev()) {
+        sum ^= table[byte as usize];
     }
     sum
 }
@@ -78,12 +78,11 @@ fn carry_eights(tables: &[[u32; 256]; 8], crc: u32, b: &[u8]) -> u32
     ensures { result ≡ crc_from crc b.now }
 {
     let mut sum = crc;
-    let mut i = 0;
-    while 8 <= b.len() - i {
-        sum = next_eight(tables, sum, wire::u64_at(b, i));
-        i += 8;
+    let (eights, rest) = b.as_chunks::<8>();
+    for eight in eights {
+        sum = next_eight(tables, sum, wire::u64_at(eight, 0));
     }
-    carry(&tables[0], sum, after(b, i))
+    carry(&tables[0], sum, rest)
 }
 
 // The register `crc` after the bytes of `b`, of which there are many. It is a function of its own, so that few bytes don't reserve room for eight tables.
@@ -98,14 +97,14 @@ fn carry_many(crc: u32, b: &[u8]) -> u32
 fn first(b: &[u8], n: usize) -> &[u8]
     ensures { result.now ≡ take n b.now }
 {
-    if n < b.len() { &b[..n] } else { b }
+    &b[..b.len().min(n)]
 }
 
 // What comes after the first `n` bytes: nothing where there are fewer.
 fn after(b: &[u8], n: usize) -> &[u8]
     ensures { result.now ≡ drop n b.now }
 {
-    if n < b.len() { &b[n..] } else { &b[..0] }
+    &b[b.len().min(n)..]
 }
 
 // The checksum of `b`. The call for many takes `&b[..]`: for `b` itself the compiler stores its place before the test, so that few bytes wait for it.

@@ -1,5 +1,6 @@
 -- What the decision on a row tells: a call whose answer is a command passed each of its checks. Whoever uses these opens no chain.
 -- Assumes nothing.
+use Rattle.std.specs.Prelude.{Ok, Err}
 use Prim.Native.Nat.{ℕ, ◌+◌, ◌≤◌, ◌<◌}
 use native.Mathlib.Omega.{arith}
 use mathlib.Core.Path.{◌≡◌, refl, sym, ap}
@@ -13,11 +14,9 @@ use Rattle.types.specs.declared.FileKind.TheVariants.{Conventional, Sequential}
 use Rattle.types.specs.declared.CommandKind.TheVariants as kind
 use Rattle.types.specs.declared.Command.{Command}
 use Rattle.types.specs.declared.Refusal.TheVariants.{ReadOnlyMount}
-use Rattle.types.specs.declared.Verdict.{Verdict}
-use Rattle.types.specs.declared.Verdict.TheVariants.{Passed}
-use Rattle.types.specs.declared.Verdict.TheVariants as verdict
-use Rattle.types.specs.declared.Answer.{Answer}
-use Rattle.types.specs.declared.Answer.TheVariants.{Refused, Done, Issue}
+use Rattle.types.specs.Answers.{Verdict}
+use Rattle.types.specs.Answers.{Answer}
+use Rattle.types.specs.declared.Granted.TheVariants.{Done, Issue}
 use Rattle.types.specs.declared.Call.{Call}
 use Rattle.types.specs.Verdicts.{refuse, answer_after}
 use Rattle.types.proofs.Tests.{and_left, and_right, or_left, or_right}
@@ -28,11 +27,11 @@ use Rattle.decision.specs.Decision.{changes, unreadable, unwritable, bad_target,
 
 -- AT ONCE, or a command
 
-not_done : {t : Bool} {rest : Answer} {c : Command} → at_once t rest ≡ Issue c → (t ≡ false) × (rest ≡ Issue c)
+not_done : {t : Bool} {rest : Answer} {c : Command} → at_once t rest ≡ Ok (Issue c) → (t ≡ false) × (rest ≡ Ok (Issue c))
 unfolding at_once
 not_done {t} {rest} {c} e = by t e
   where
-    by : (t : Bool) → at_once t rest ≡ Issue c → (t ≡ false) × (rest ≡ Issue c)
+    by : (t : Bool) → at_once t rest ≡ Ok (Issue c) → (t ≡ false) × (rest ≡ Ok (Issue c))
     by true e = (cc, cc)
     by false e = (refl, e)
 
@@ -40,8 +39,11 @@ goes_on_lem : {t : Bool} {rest y : Answer} → t ≡ false → rest ≡ y → at
 unfolding at_once
 goes_on_lem e g = rw e g
 
-issued : {c d : Command} → Issue d ≡ Issue c → d ≡ c
+issued : {c d : Command} → ◌≡◌ {A = Answer} (Ok (Issue d)) (Ok (Issue c)) → d ≡ c
 issued e = cc
+
+pub commanded : {c d : Command} → d ≡ c → ◌≡◌ {A = Answer} (Ok (Issue d)) (Ok (Issue c))
+commanded e = cc
 
 -- A READ
 
@@ -55,14 +57,17 @@ pub record ReadIssued (r : Row) (offset length : ℕ) (c : Command) : Type 0 whe
   pub command : command_of kind.Read r.start offset (read_count r.size offset length) ≡ c
 
 module _ (r : Row) (o l : ℕ) where
-  pub read_checked : read_checks r o l ≡ Passed → ReadChecked r o l
+  pub read_checked : read_checks r o l ≡ Ok tt → ReadChecked r o l
   unfolding read_checks
   read_checked e =
       let (e1, g1) = check_passed _ e in
       let (e2, g2) = check_passed _ g1 in
       record { readable = e1; fits = ltb-false r.capacity (o + l) e2 }
 
-  pub read_issued : (c : Command) → read_row r o l ≡ Issue c → ReadIssued r o l c
+  pub read_fits : read_checks r o l ≡ Ok tt → o + l ≤ r.capacity
+  read_fits e = (read_checked e).fits
+
+  pub read_issued : (c : Command) → read_row r o l ≡ Ok (Issue c) → ReadIssued r o l c
   unfolding read_row
   read_issued c e =
       let (e1, g1) = after_passed _ e in
@@ -70,11 +75,11 @@ module _ (r : Row) (o l : ℕ) where
       record { checked = read_checked e1; some = e2; command = issued g2 }
 
   -- and the other way round
-  pub read-issues : (c : Command) → ReadIssued r o l c → read_row r o l ≡ Issue c
+  pub read-issues : (c : Command) → ReadIssued r o l c → read_row r o l ≡ Ok (Issue c)
   unfolding read_row read_checks
   read-issues c w =
-      let p : read_checks r o l ≡ Passed = check_passes _ w.checked.readable (check_passes _ (le-ltb r.capacity (o + l) w.checked.fits) refl) in
-      rw (after-passes p) (goes_on_lem w.some (ap Issue w.command))
+      let p : read_checks r o l ≡ (Ok tt) = check_passes _ w.checked.readable (check_passes _ (le-ltb r.capacity (o + l) w.checked.fits) refl) in
+      rw (after-passes p) (goes_on_lem w.some (commanded w.command))
 
 -- A WRITE
 
@@ -90,7 +95,7 @@ pub record WriteIssued (explicit : Bool) (block : ℕ) (k : FileKind) (r : Row) 
   pub command : command_of kind.Write r.start offset length ≡ c
 
 module _ (explicit : Bool) (block : ℕ) (k : FileKind) (r : Row) (o l : ℕ) where
-  pub write_checked : write_checks explicit block k r o l ≡ Passed → WriteChecked explicit block k r o l
+  pub write_checked : write_checks explicit block k r o l ≡ Ok tt → WriteChecked explicit block k r o l
   unfolding write_checks
   write_checked e =
       let (e1, g1) = check_passed _ e in
@@ -99,7 +104,10 @@ module _ (explicit : Bool) (block : ℕ) (k : FileKind) (r : Row) (o l : ℕ) wh
       let (e4, g4) = check_passed _ g3 in
       record { writable = e1; opened = e2; fits = ltb-false r.capacity (o + l) e3; placed = e4 }
 
-  pub write_issued : (c : Command) → write_row explicit block k r o l ≡ Issue c → WriteIssued explicit block k r o l c
+  pub write_fits : write_checks explicit block k r o l ≡ Ok tt → o + l ≤ r.capacity
+  write_fits e = (write_checked e).fits
+
+  pub write_issued : (c : Command) → write_row explicit block k r o l ≡ Ok (Issue c) → WriteIssued explicit block k r o l c
   unfolding write_row
   write_issued c e =
       let (e1, g1) = after_passed _ e in
@@ -107,12 +115,12 @@ module _ (explicit : Bool) (block : ℕ) (k : FileKind) (r : Row) (o l : ℕ) wh
       record { checked = write_checked e1; some = e2; command = issued g2 }
 
   -- and the other way round
-  pub write-issues : (c : Command) → WriteIssued explicit block k r o l c → write_row explicit block k r o l ≡ Issue c
+  pub write-issues : (c : Command) → WriteIssued explicit block k r o l c → write_row explicit block k r o l ≡ Ok (Issue c)
   unfolding write_row write_checks
   write-issues c w =
-      let p : write_checks explicit block k r o l ≡ Passed =
+      let p : write_checks explicit block k r o l ≡ (Ok tt) =
       check_passes _ w.checked.writable (check_passes _ w.checked.opened (check_passes _ (le-ltb r.capacity (o + l) w.checked.fits) (check_passes _ w.checked.placed refl))) in
-      rw (after-passes p) (goes_on_lem w.some (ap Issue w.command))
+      rw (after-passes p) (goes_on_lem w.some (commanded w.command))
 
 -- A TRUNCATION
 
@@ -122,7 +130,7 @@ pub record TruncateIssued (k : FileKind) (r : Row) (target : ℕ) (c : Command) 
   pub other : eqb target r.size ≡ false
   pub command : file_command (cond (eqb target 0) kind.Reset kind.Finish) r ≡ c
 
-pub truncate_issued : (k : FileKind) (r : Row) (t : ℕ) (c : Command) → truncate_row k r t ≡ Issue c → TruncateIssued k r t c
+pub truncate_issued : (k : FileKind) (r : Row) (t : ℕ) (c : Command) → truncate_row k r t ≡ Ok (Issue c) → TruncateIssued k r t c
 unfolding truncate_row
 truncate_issued k r t c e =
     let (e1, g1) = after_passed _ e in
@@ -136,7 +144,7 @@ pub record FlushIssued (r : Row) (c : Command) : Type 0 where
   pub writable : unwritable r.access ≡ false
   pub command : file_command kind.Flush r ≡ c
 
-pub flush_issued : (r : Row) (c : Command) → flush_row r ≡ Issue c → FlushIssued r c
+pub flush_issued : (r : Row) (c : Command) → flush_row r ≡ Ok (Issue c) → FlushIssued r c
 unfolding flush_row
 flush_issued r c e =
     let (e1, g1) = after_passed _ e in
@@ -154,14 +162,14 @@ pub record OpenIssued (explicit : Bool) (k : FileKind) (r : Row) (c : Command) :
   pub command : file_command kind.Open r ≡ c
 
 -- past 4 and 14
-pub open_checked : (r : Row) → open_checks r ≡ Passed → (unwritable r.access ≡ false) × (r.opens < most_opens)
+pub open_checked : (r : Row) → open_checks r ≡ Ok tt → (unwritable r.access ≡ false) × (r.opens < most_opens)
 unfolding open_checks
 open_checked r e =
     let (e1, g1) = check_passed _ e in
     let (e2, g2) = check_passed _ g1 in
     (e1, leb-false most_opens r.opens e2)
 
-pub open_issued : (explicit : Bool) (k : FileKind) (r : Row) (c : Command) → open_row explicit k r ≡ Issue c → OpenIssued explicit k r c
+pub open_issued : (explicit : Bool) (k : FileKind) (r : Row) (c : Command) → open_row explicit k r ≡ Ok (Issue c) → OpenIssued explicit k r c
 unfolding open_row
 open_issued explicit Conventional r c e = let z : ◌≡◌ {A = ℕ} 0 1 = cc in absurd (omega arith)
 open_issued explicit Sequential r c e =
@@ -188,7 +196,7 @@ pub record CloseIssued (explicit : Bool) (k : FileKind) (r : Row) (c : Command) 
   pub room : is_full r ≡ false
   pub command : file_command kind.Close r ≡ c
 
-pub close_issued : (explicit : Bool) (k : FileKind) (r : Row) (c : Command) → close_row explicit k r ≡ Issue c → CloseIssued explicit k r c
+pub close_issued : (explicit : Bool) (k : FileKind) (r : Row) (c : Command) → close_row explicit k r ≡ Ok (Issue c) → CloseIssued explicit k r c
 unfolding close_row
 close_issued explicit Conventional r c e = let z : ◌≡◌ {A = ℕ} 0 1 = cc in absurd (omega arith)
 close_issued explicit Sequential r c e =
@@ -209,7 +217,7 @@ close_issued explicit Sequential r c e =
 -- THE DISPATCH: a call that is dispatched to a command passed 3, and its row's answer is the command; and the other way round.
 
 module _ (readonly explicit : Bool) (block : ℕ) (k : FileKind) (r : Row) (x : Call) where
-  pub dispatch_passed : (c : Command) → dispatched readonly explicit block k r x ≡ Issue c → (readonly && changes k x ≡ false) × (answer_on explicit block k r x ≡ Issue c)
+  pub dispatch_passed : (c : Command) → dispatched readonly explicit block k r x ≡ Ok (Issue c) → (readonly && changes k x ≡ false) × (answer_on explicit block k r x ≡ Ok (Issue c))
   unfolding dispatched
   dispatch_passed c e =
       let (e1, g1) = after_passed _ e in
@@ -220,23 +228,23 @@ module _ (readonly explicit : Bool) (block : ℕ) (k : FileKind) (r : Row) (x : 
   unfolding dispatched
   dispatch_passes e = after-passes (check_passes _ e refl)
 
-  pub dispatch_refused : readonly && changes k x ≡ true → dispatched readonly explicit block k r x ≡ Refused ReadOnlyMount
+  pub dispatch_refused : readonly && changes k x ≡ true → dispatched readonly explicit block k r x ≡ Err ReadOnlyMount
   unfolding dispatched refuse answer_after
   dispatch_refused e = rw e
 
 -- ONE OPEN MORE never wraps, where an open was not refused.
 
 -- after checks that were passed or not
-pub settled-after : (k : FileKind) (x : Call) (r : Row) (v : Verdict) (a : Answer) → (v ≡ Passed → Settles k x r a) → Settles k x r (answer_after v a)
+pub settled-after : (k : FileKind) (x : Call) (r : Row) (v : Verdict) (a : Answer) → (v ≡ Ok tt → Settles k x r a) → Settles k x r (answer_after v a)
 unfolding answer_after
-settled-after k x r Passed a h = h refl
-settled-after k x r (verdict.Refused y) a h = tt
+settled-after k x r (Ok tt) a h = h refl
+settled-after k x r (Err y) a h = tt
 
 -- at once or not, where the call may be counted
 either_way : (k : FileKind) (x : Call) (r : Row) (a : Answer) → Countable k x r → Settles k x r a
-either_way k x r (Refused y) h = tt
-either_way k x r (Done count) h = h
-either_way k x r (Issue c) h = h
+either_way k x r (Err y) h = tt
+either_way k x r (Ok (Done count)) h = h
+either_way k x r (Ok (Issue c)) h = h
 
 pub answer_settles : (explicit : Bool) (block : ℕ) (k : FileKind) (r : Row) (x : Call) → Settles k x r (answer_on explicit block k r x)
 unfolding open_row
@@ -256,40 +264,40 @@ dispatch_settles readonly explicit block k r x = settled-after k x r _ (answer_o
 -- 11 AND 12, past everything else
 
 -- an answer within the limits is the one that it was, and the limits were passed
-pub limited_issued : {v : Verdict} {a : Answer} {c : Command} → limited v a ≡ Issue c → (v ≡ Passed) × (a ≡ Issue c)
+pub limited_issued : {v : Verdict} {a : Answer} {c : Command} → limited v a ≡ Ok (Issue c) → (v ≡ Ok tt) × (a ≡ Ok (Issue c))
 unfolding limited
 limited_issued {v} {a} {c} e = by a e
   where
-    by : (a : Answer) → limited v a ≡ Issue c → (v ≡ Passed) × (a ≡ Issue c)
-    by (Refused y) e = let z : ◌≡◌ {A = ℕ} 0 1 = cc in absurd (omega arith)
-    by (Done count) e = after_passed _ e
-    by (Issue d) e = after_passed _ e
+    by : (a : Answer) → limited v a ≡ Ok (Issue c) → (v ≡ Ok tt) × (a ≡ Ok (Issue c))
+    by (Err y) e = let z : ◌≡◌ {A = ℕ} 0 1 = cc in absurd (omega arith)
+    by (Ok (Done count)) e = after_passed _ e
+    by (Ok (Issue d)) e = after_passed _ e
 
-pub limited-passes : (v : Verdict) (a : Answer) → v ≡ Passed → limited v a ≡ a
+pub limited-passes : (v : Verdict) (a : Answer) → v ≡ Ok tt → limited v a ≡ a
 unfolding limited
-limited-passes v (Refused y) e = refl
-limited-passes v (Done count) e = after-passes e
-limited-passes v (Issue c) e = after-passes e
+limited-passes v (Err y) e = refl
+limited-passes v (Ok (Done count)) e = after-passes e
+limited-passes v (Ok (Issue c)) e = after-passes e
 
 pub limited_settles : (k : FileKind) (x : Call) (r : Row) (v : Verdict) (a : Answer) → Settles k x r a → Settles k x r (limited v a)
 unfolding limited
-limited_settles k x r v (Refused y) h = tt
-limited_settles k x r v (Done count) h = settled-after k x r v (Done count) (λ p. h)
-limited_settles k x r v (Issue c) h = settled-after k x r v (Issue c) (λ p. h)
+limited_settles k x r v (Err y) h = tt
+limited_settles k x r v (Ok (Done count)) h = settled-after k x r v (Ok (Done count)) (λ p. h)
+limited_settles k x r v (Ok (Issue c)) h = settled-after k x r v (Ok (Issue c)) (λ p. h)
 
 -- without the option there are none
-pub unlimited : (a : Account) (k : FileKind) (r : Row) (x : Call) → limits_of false a k r x ≡ Passed
+pub unlimited : (a : Account) (k : FileKind) (r : Row) (x : Call) → limits_of false a k r x ≡ Ok tt
 unfolding limit_check refuse
 unlimited a k r x = by (opens_file k x)
   where
-    by : (t : Bool) → cond t (limit_check false a r (called k x r)) Passed ≡ Passed
+    by : (t : Bool) → cond t (limit_check false a r (called k x r)) (Ok tt) ≡ Ok tt
     by true = refl
     by false = refl
 
 -- of any other call neither
-pub limits_of-others : (explicit : Bool) (a : Account) (k : FileKind) (r : Row) (x : Call) → opens_file k x ≡ false → limits_of explicit a k r x ≡ Passed
+pub limits_of-others : (explicit : Bool) (a : Account) (k : FileKind) (r : Row) (x : Call) → opens_file k x ≡ false → limits_of explicit a k r x ≡ Ok tt
 limits_of-others explicit a k r x e = rw e
 
 -- and of an open they are those of the row that it leaves
 pub limits_of-opens : (explicit : Bool) (a : Account) (k : FileKind) (r : Row) (x : Call) → opens_file k x ≡ true → limit_check explicit a r (called k x r) ≡ limits_of explicit a k r x
-limits_of-opens explicit a k r x e = ap (λ (t : Bool). cond t (limit_check explicit a r (called k x r)) Passed) (sym e)
+limits_of-opens explicit a k r x e = ap (λ (t : Bool). cond t (limit_check explicit a r (called k x r)) (Ok tt)) (sym e)

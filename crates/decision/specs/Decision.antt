@@ -1,5 +1,5 @@
 -- What a call answers on its row, past the checks that all calls share: its own checks in the paper's order, and then a count or a command.
-use Rattle.std.specs.Prelude.{ℕ, ◌+◌, ◌-◌, min, Bool, true, false, cond, not, ◌&&◌, ◌||◌, eqb, leb, ltb}
+use Rattle.std.specs.Prelude.{ℕ, ◌+◌, ◌-◌, min, Bool, true, false, cond, not, ◌&&◌, ◌||◌, eqb, leb, ltb, Ok, Err}
 use Rattle.types.specs.declared.Account.{Account}
 use Rattle.types.specs.declared.Row.{Row}
 use Rattle.types.specs.declared.FileKind.{FileKind}
@@ -9,10 +9,9 @@ use Rattle.types.specs.declared.Refusal.TheVariants.{ReadOnlyMount, Denied, Beyo
 use Rattle.types.specs.declared.CommandKind.{CommandKind}
 use Rattle.types.specs.declared.CommandKind.TheVariants as kind
 use Rattle.types.specs.declared.Command.{Command}
-use Rattle.types.specs.declared.Verdict.{Verdict}
-use Rattle.types.specs.declared.Verdict.TheVariants.{Passed}
-use Rattle.types.specs.declared.Answer.{Answer}
-use Rattle.types.specs.declared.Answer.TheVariants.{Refused, Done, Issue}
+use Rattle.types.specs.Answers.{Verdict}
+use Rattle.types.specs.Answers.{Answer}
+use Rattle.types.specs.declared.Granted.TheVariants.{Done, Issue}
 use Rattle.types.specs.declared.Call.{Call}
 use Rattle.types.specs.Blocks.{bytes_of, on_block}
 use Rattle.types.specs.Predicates.{is_conventional, is_none, is_write}
@@ -65,7 +64,7 @@ misplaced Sequential block size offset length = not (on_block block offset && on
 
 -- "answered 0 at once" where the test holds, else the rest
 unfoldable pub at_once : Bool → Answer → Answer
-at_once true rest = Done 0
+at_once true rest = Ok (Done 0)
 at_once false rest = rest
 
 -- "a kind, a byte address (start × 512, plus the offset for reads and writes) and a byte length (0 but for reads and writes)"
@@ -82,20 +81,20 @@ read_count size offset length = min length (size - offset)
 
 -- "Zero: answered 0 at once. Else a .. command."
 abbrev pub transfer : CommandKind → ℕ → ℕ → ℕ → Answer
-transfer k start offset count = at_once (eqb count 0) (Issue (command_of k start offset count))
+transfer k start offset count = at_once (eqb count 0) (Ok (Issue (command_of k start offset count)))
 
 -- "Already that size: answered 0. Else to 0 a reset, to capacity a finish."
 abbrev pub resize : Row → ℕ → Answer
-resize r target = at_once (eqb target r.size) (Issue (file_command (cond (eqb target 0) kind.Reset kind.Finish) r))
+resize r target = at_once (eqb target r.size) (Ok (Issue (file_command (cond (eqb target 0) kind.Reset kind.Finish) r)))
 
 -- 02: with the option "The first open of a file that isn't full commands a zone open", "others are answered 0"
 abbrev pub opening : Bool → Row → Answer
-opening explicit r = at_once (not (explicit && (not (is_open r) && not (is_full r)))) (Issue (file_command kind.Open r))
+opening explicit r = at_once (not (explicit && (not (is_open r) && not (is_full r)))) (Ok (Issue (file_command kind.Open r)))
 
 -- 02: with the option "the last close of one neither empty nor full a zone close; others are answered 0"
 abbrev pub closing : Bool → Row → Answer
 closing explicit r =
-    at_once (not (explicit && (eqb r.opens 1 && (not (is_empty r) && not (is_full r))))) (Issue (file_command kind.Close r))
+    at_once (not (explicit && (eqb r.opens 1 && (not (is_empty r) && not (is_full r))))) (Ok (Issue (file_command kind.Close r)))
 
 -- ---- each call on its row
 
@@ -104,7 +103,7 @@ unfoldable pub read_checks : Row → ℕ → ℕ → Verdict
 read_checks r offset length =
     refuse (unreadable r.access) Denied
     (refuse (beyond r.capacity offset length) BeyondCapacity
-    Passed)
+    (Ok tt))
 
 unfoldable pub read_row : Row → ℕ → ℕ → Answer
 read_row r offset length =
@@ -117,7 +116,7 @@ write_checks explicit block k r offset length =
     (refuse (unopened explicit k r) NotOpen
     (refuse (beyond r.capacity offset length) BeyondCapacity
     (refuse (misplaced k block r.size offset length) Misplaced
-    Passed)))
+    (Ok tt))))
 
 unfoldable pub write_row : Bool → ℕ → FileKind → Row → ℕ → ℕ → Answer
 write_row explicit block k r offset length =
@@ -126,11 +125,11 @@ write_row explicit block k r offset length =
 -- "Truncate: 3, 4. Already that size: answered 0. Else to 0 a reset, to capacity a finish."
 unfoldable pub truncate_row : FileKind → Row → ℕ → Answer
 truncate_row k r target =
-    answer_after (refuse (unwritable r.access || bad_target k r.capacity target) Denied Passed) (resize r target)
+    answer_after (refuse (unwritable r.access || bad_target k r.capacity target) Denied (Ok tt)) (resize r target)
 
 -- "Flush: 3, 4 (needs write), then a flush command."
 unfoldable pub flush_row : Row → Answer
-flush_row r = answer_after (refuse (unwritable r.access) Denied Passed) (Issue (file_command kind.Flush r))
+flush_row r = answer_after (refuse (unwritable r.access) Denied (Ok tt)) (Ok (Issue (file_command kind.Flush r)))
 
 -- 02: "Add open-for-writing and close, for seq files; on cnv both are answered 0 after 2." Of an open 4 and 14; 11 and 12, which the account decides,
 -- come after these (`limited`)
@@ -138,16 +137,16 @@ unfoldable pub open_checks : Row → Verdict
 open_checks r =
     refuse (unwritable r.access) Denied
     (refuse (leb most_opens r.opens) TooManyOpens
-    Passed)
+    (Ok tt))
 
 unfoldable pub open_row : Bool → FileKind → Row → Answer
-open_row explicit Conventional r = Done 0
+open_row explicit Conventional r = Ok (Done 0)
 open_row explicit Sequential r = answer_after (open_checks r) (opening explicit r)
 
 -- 02: "A close skips 3 and 4 and answers 13 without an open"
 unfoldable pub close_row : Bool → FileKind → Row → Answer
-close_row explicit Conventional r = Done 0
-close_row explicit Sequential r = answer_after (refuse (not (is_open r)) NotOpen Passed) (closing explicit r)
+close_row explicit Conventional r = Ok (Done 0)
+close_row explicit Sequential r = answer_after (refuse (not (is_open r)) NotOpen (Ok tt)) (closing explicit r)
 
 -- `explicit` is the option `explicit-open`
 abbrev pub answer_on : Bool → ℕ → FileKind → Row → Call → Answer
@@ -161,7 +160,7 @@ answer_on explicit block k r Call.Close = close_row explicit k r
 -- THE DECISION: 3, "the mount is read-only", and then the call on its row
 unfoldable pub dispatched : Bool → Bool → ℕ → FileKind → Row → Call → Answer
 dispatched readonly explicit block k r x =
-    answer_after (refuse (readonly && changes k x) ReadOnlyMount Passed) (answer_on explicit block k r x)
+    answer_after (refuse (readonly && changes k x) ReadOnlyMount (Ok tt)) (answer_on explicit block k r x)
 
 -- ---- 02: what opens and closes make of a row
 
@@ -198,10 +197,10 @@ called k x r = with_opens r (opens_after k x r.opens)
 
 -- what the account finds of a call
 abbrev pub limits_of : Bool → Account → FileKind → Row → Call → Verdict
-limits_of explicit a k r x = cond (opens_file k x) (limit_check explicit a r (called k x r)) Passed
+limits_of explicit a k r x = cond (opens_file k x) (limit_check explicit a r (called k x r)) (Ok tt)
 
 -- the last checks: what was refused before them stays so
 unfoldable pub limited : Verdict → Answer → Answer
-limited found (Refused x) = Refused x
-limited found (Done count) = answer_after found (Done count)
-limited found (Issue c) = answer_after found (Issue c)
+limited found (Err x) = Err x
+limited found (Ok (Done count)) = answer_after found (Ok (Done count))
+limited found (Ok (Issue c)) = answer_after found (Ok (Issue c))

@@ -1,35 +1,32 @@
 // What a call answers on its row, past the checks that all calls share. The option `explicit-open`, block, kind, row and call decide; the mount's
-// read-only mark is looked at once, where a call is dispatched, and its account once, after that. A call's checks are computed and folded, and its
-// answer is made where they are passed.
-#![tactic(auto)]
+// read-only mark is looked at once, where a call is dispatched, and its account once, after that. The first of a call's checks that fails ends it, and
+// its answer is made where they are passed.
+#![tactic(auto, unfolding(types::specs::Verdicts::refuse, types::specs::Verdicts::answer_after, crate::specs::Decision::at_once, crate::specs::Decision::read_checks, crate::specs::Decision::read_row, crate::specs::Decision::write_checks, crate::specs::Decision::write_row, crate::specs::Decision::truncate_row, crate::specs::Decision::flush_row, crate::specs::Decision::open_checks, crate::specs::Decision::open_row, crate::specs::Decision::close_row, crate::specs::Decision::dispatched, crate::specs::Decision::limited), using(crate::proofs::Laws::read_fits, crate::proofs::Laws::write_fits))]
 
 ghost use Rattle.std.specs.Prelude.{◌≡◌, true, false, ◌+◌, ◌-◌, ◌/◌, ◌^◌, ◌≤◌};
 ghost use Rattle.types.specs.Blocks.{sector_bytes, good_block};
-ghost use Rattle.types.specs.Verdicts.{answer_after};
 ghost use Rattle.types.specs.declared.FileKind.TheVariants.{Sequential};
 ghost use Rattle.decision.specs.Decision.{changes, unreadable, unwritable, bad_target, beyond, misplaced, command_of, file_command, read_count, transfer, resize, read_checks, write_checks, read_row, write_row, truncate_row, flush_row, unopened, opening, open_checks, open_row, closing, close_row, answer_on, dispatched, opens_file, closes_file, counts, called, limits_of, limited};
 ghost use Rattle.decision.specs.Facts.{Countable, Settles};
 
 use types::answers::refuse;
 use types::{
-    Access, Account, Answer, Call, Command, CommandKind, FileKind, Refusal, Row, Verdict,
-    predicates, units,
+    Access, Account, Call, Command, CommandKind, FileKind, Granted, Refusal, Row, predicates, units,
 };
 
 // The most opens of one file.
+// It stays a number of its own: that the most files of a kind are as many is chance.
 const MOST_OPENS: u64 = 65535;
 
 // Whether a call is none that a read-only mount still answers.
+// Each call keeps its case, so that a new one is an error here.
 fn changes(kind: FileKind, x: Call) -> bool
     ensures { result ≡ changes kind x }
 {
     match x {
-        Call::Read(_, _) => false,
-        Call::Write(_, _) => true,
-        Call::Truncate(_) => true,
-        Call::Flush => true,
+        Call::Read(_, _) | Call::Close => false,
+        Call::Write(_, _) | Call::Truncate(_) | Call::Flush => true,
         Call::Open => !predicates::is_conventional(kind),
-        Call::Close => false,
     }
 }
 
@@ -65,11 +62,7 @@ fn is_unopened(explicit: bool, kind: FileKind, row: Row) -> bool
 fn is_beyond(capacity: u64, offset: u64, length: u64) -> bool
     ensures { result ≡ beyond capacity offset length }
 {
-    if offset <= capacity {
-        capacity - offset < length
-    } else {
-        true
-    }
+    (capacity < offset) | (capacity.saturating_sub(offset) < length)
 }
 
 fn is_misplaced(kind: FileKind, block: u64, size: u64, offset: u64, length: u64) -> bool
@@ -106,68 +99,52 @@ fn file_command(kind: CommandKind, row: Row) -> Command
 fn read_count(size: u64, offset: u64, length: u64) -> u64
     ensures { result ≡ read_count size offset length }
 {
-    if size <= offset {
-        0
-    } else if length <= size - offset {
-        length
-    } else {
-        size - offset
-    }
+    length.min(size.saturating_sub(offset))
 }
 
 // A count of 0 is answered at once, and any other is commanded.
-fn transfer(kind: CommandKind, start: u64, offset: u64, count: u64) -> Answer
+fn transfer(kind: CommandKind, start: u64, offset: u64, count: u64) -> Result<Granted, Refusal>
     requires { (start ≤ 2 ^ 40) × (offset ≤ 2 ^ 50) }
     ensures { result ≡ transfer kind start offset count }
 {
     if count == 0 {
-        Answer::Done(0)
+        Ok(Granted::Done(0))
     } else {
-        Answer::Issue(command_of(kind, start, offset, count))
+        Ok(Granted::Issue(command_of(kind, start, offset, count)))
     }
 }
 
 // The size that is there already is answered at once; any other is 0 or the capacity, and commanded.
-fn resize(row: Row, target: u64) -> Answer
+fn resize(row: Row, target: u64) -> Result<Granted, Refusal>
     requires { row.start ≤ 2 ^ 40 }
     ensures { result ≡ resize row target }
 {
     if target == row.size {
-        Answer::Done(0)
+        Ok(Granted::Done(0))
     } else if target == 0 {
-        Answer::Issue(file_command(CommandKind::Reset, row))
+        Ok(Granted::Issue(file_command(CommandKind::Reset, row)))
     } else {
-        Answer::Issue(file_command(CommandKind::Finish, row))
+        Ok(Granted::Issue(file_command(CommandKind::Finish, row)))
     }
 }
 
 // 4 and 5.
-fn read_checks(row: Row, offset: u64, length: u64) -> Verdict
+fn read_checks(row: Row, offset: u64, length: u64) -> Result<(), Refusal>
     ensures { result ≡ read_checks row offset length }
 {
-    let a = row.access;
-    let denied = is_unreadable(a);
+    refuse(is_unreadable(row.access), Refusal::Denied)?;
     let beyond = is_beyond(row.capacity, offset, length);
-    refuse(
-        denied,
-        Refusal::Denied,
-        refuse(beyond, Refusal::BeyondCapacity, Verdict::Passed),
-    )
+    refuse(beyond, Refusal::BeyondCapacity)
 }
 
 // The calls are each small, for the compiler to see through them wherever it is known which of them is made.
-pub fn read_row(row: Row, offset: u64, length: u64) -> Answer
+pub fn read_row(row: Row, offset: u64, length: u64) -> Result<Granted, Refusal>
     requires { row.start + row.capacity / sector_bytes ≤ 2 ^ 40 }
     ensures { result ≡ read_row row offset length }
 {
-    let verdict = read_checks(row, offset, length);
-    match verdict {
-        Verdict::Passed => {
-            let count = read_count(row.size, offset, length);
-            transfer(CommandKind::Read, row.start, offset, count)
-        }
-        Verdict::Refused(x) => Answer::Refused(x),
-    }
+    read_checks(row, offset, length)?;
+    let count = read_count(row.size, offset, length);
+    transfer(CommandKind::Read, row.start, offset, count)
 }
 
 // 4, 13, 5, and of a sequential file 6.
@@ -178,28 +155,16 @@ fn write_checks(
     row: Row,
     offset: u64,
     length: u64,
-) -> Verdict
+) -> Result<(), Refusal>
     requires { good_block block ≡ true }
     ensures { result ≡ write_checks explicit block kind row offset length }
 {
-    let a = row.access;
-    let denied = is_unwritable(a);
-    let unopened = is_unopened(explicit, kind, row);
+    refuse(is_unwritable(row.access), Refusal::Denied)?;
+    refuse(is_unopened(explicit, kind, row), Refusal::NotOpen)?;
     let beyond = is_beyond(row.capacity, offset, length);
+    refuse(beyond, Refusal::BeyondCapacity)?;
     let misplaced = is_misplaced(kind, block, row.size, offset, length);
-    refuse(
-        denied,
-        Refusal::Denied,
-        refuse(
-            unopened,
-            Refusal::NotOpen,
-            refuse(
-                beyond,
-                Refusal::BeyondCapacity,
-                refuse(misplaced, Refusal::Misplaced, Verdict::Passed),
-            ),
-        ),
-    )
+    refuse(misplaced, Refusal::Misplaced)
 }
 
 pub fn write_row(
@@ -209,127 +174,107 @@ pub fn write_row(
     row: Row,
     offset: u64,
     length: u64,
-) -> Answer
+) -> Result<Granted, Refusal>
     requires { (good_block block ≡ true) × (row.start + row.capacity / sector_bytes ≤ 2 ^ 40) }
     ensures { result ≡ write_row explicit block kind row offset length }
 {
-    let verdict = write_checks(explicit, block, kind, row, offset, length);
-    match verdict {
-        Verdict::Passed => transfer(CommandKind::Write, row.start, offset, length),
-        Verdict::Refused(x) => Answer::Refused(x),
-    }
+    write_checks(explicit, block, kind, row, offset, length)?;
+    transfer(CommandKind::Write, row.start, offset, length)
 }
 
-pub fn truncate_row(kind: FileKind, row: Row, target: u64) -> Answer
+pub fn truncate_row(kind: FileKind, row: Row, target: u64) -> Result<Granted, Refusal>
     requires { row.start + row.capacity / sector_bytes ≤ 2 ^ 40 }
     ensures { result ≡ truncate_row kind row target }
 {
-    let a = row.access;
-    let denied = is_unwritable(a) | is_bad_target(kind, row.capacity, target);
-    let verdict = refuse(denied, Refusal::Denied, Verdict::Passed);
-    match verdict {
-        Verdict::Passed => resize(row, target),
-        Verdict::Refused(x) => Answer::Refused(x),
-    }
+    let denied = is_unwritable(row.access) | is_bad_target(kind, row.capacity, target);
+    refuse(denied, Refusal::Denied)?;
+    resize(row, target)
 }
 
-pub fn flush_row(row: Row) -> Answer
+pub fn flush_row(row: Row) -> Result<Granted, Refusal>
     requires { row.start + row.capacity / sector_bytes ≤ 2 ^ 40 }
     ensures { result ≡ flush_row row }
 {
-    let a = row.access;
-    let verdict = refuse(is_unwritable(a), Refusal::Denied, Verdict::Passed);
-    match verdict {
-        Verdict::Passed => Answer::Issue(file_command(CommandKind::Flush, row)),
-        Verdict::Refused(x) => Answer::Refused(x),
-    }
+    refuse(is_unwritable(row.access), Refusal::Denied)?;
+    Ok(Granted::Issue(file_command(CommandKind::Flush, row)))
 }
 
 // The first open of a file that isn't full is commanded under `explicit-open`, and any other answered at once.
-fn opening(explicit: bool, row: Row) -> Answer
+fn opening(explicit: bool, row: Row) -> Result<Granted, Refusal>
     requires { row.start ≤ 2 ^ 40 }
     ensures { result ≡ opening explicit row }
 {
     if explicit & (!account::is_open(row) & !account::is_full(row)) {
-        Answer::Issue(file_command(CommandKind::Open, row))
+        Ok(Granted::Issue(file_command(CommandKind::Open, row)))
     } else {
-        Answer::Done(0)
+        Ok(Granted::Done(0))
     }
 }
 
 // 4 and 14.
-fn open_checks(row: Row) -> Verdict
+fn open_checks(row: Row) -> Result<(), Refusal>
     ensures { result ≡ open_checks row }
 {
-    let a = row.access;
-    let denied = is_unwritable(a);
-    refuse(
-        denied,
-        Refusal::Denied,
-        refuse(
-            MOST_OPENS <= row.opens,
-            Refusal::TooManyOpens,
-            Verdict::Passed,
-        ),
-    )
+    refuse(is_unwritable(row.access), Refusal::Denied)?;
+    refuse(MOST_OPENS <= row.opens, Refusal::TooManyOpens)
 }
 
-fn open_sequential(explicit: bool, row: Row) -> Answer
+fn open_sequential(explicit: bool, row: Row) -> Result<Granted, Refusal>
     requires { row.start + row.capacity / sector_bytes ≤ 2 ^ 40 }
     ensures { result ≡ open_row explicit Sequential row }
 {
-    let verdict = open_checks(row);
-    match verdict {
-        Verdict::Passed => opening(explicit, row),
-        Verdict::Refused(x) => Answer::Refused(x),
-    }
+    open_checks(row)?;
+    opening(explicit, row)
 }
 
-pub fn open_row(explicit: bool, kind: FileKind, row: Row) -> Answer
+pub fn open_row(explicit: bool, kind: FileKind, row: Row) -> Result<Granted, Refusal>
     requires { row.start + row.capacity / sector_bytes ≤ 2 ^ 40 }
     ensures { result ≡ open_row explicit kind row }
 {
     match kind {
-        FileKind::Conventional => Answer::Done(0),
+        FileKind::Conventional => Ok(Granted::Done(0)),
         FileKind::Sequential => open_sequential(explicit, row),
     }
 }
 
 // The last close of a file neither empty nor full is commanded under `explicit-open`, and any other answered at once.
-fn closing(explicit: bool, row: Row) -> Answer
+fn closing(explicit: bool, row: Row) -> Result<Granted, Refusal>
     requires { row.start ≤ 2 ^ 40 }
     ensures { result ≡ closing explicit row }
 {
     let between = !account::is_empty(row) & !account::is_full(row);
     if explicit & ((row.opens == 1) & between) {
-        Answer::Issue(file_command(CommandKind::Close, row))
+        Ok(Granted::Issue(file_command(CommandKind::Close, row)))
     } else {
-        Answer::Done(0)
+        Ok(Granted::Done(0))
     }
 }
 
-fn close_sequential(explicit: bool, row: Row) -> Answer
+fn close_sequential(explicit: bool, row: Row) -> Result<Granted, Refusal>
     requires { row.start + row.capacity / sector_bytes ≤ 2 ^ 40 }
     ensures { result ≡ close_row explicit Sequential row }
 {
-    let verdict = refuse(!account::is_open(row), Refusal::NotOpen, Verdict::Passed);
-    match verdict {
-        Verdict::Passed => closing(explicit, row),
-        Verdict::Refused(x) => Answer::Refused(x),
-    }
+    refuse(!account::is_open(row), Refusal::NotOpen)?;
+    closing(explicit, row)
 }
 
-pub fn close_row(explicit: bool, kind: FileKind, row: Row) -> Answer
+pub fn close_row(explicit: bool, kind: FileKind, row: Row) -> Result<Granted, Refusal>
     requires { row.start + row.capacity / sector_bytes ≤ 2 ^ 40 }
     ensures { result ≡ close_row explicit kind row }
 {
     match kind {
-        FileKind::Conventional => Answer::Done(0),
+        FileKind::Conventional => Ok(Granted::Done(0)),
         FileKind::Sequential => close_sequential(explicit, row),
     }
 }
 
-fn answer_on(explicit: bool, block: u64, kind: FileKind, row: Row, x: Call) -> Answer
+fn answer_on(
+    explicit: bool,
+    block: u64,
+    kind: FileKind,
+    row: Row,
+    x: Call,
+) -> Result<Granted, Refusal>
     requires { (good_block block ≡ true) × (row.start + row.capacity / sector_bytes ≤ 2 ^ 40) }
     ensures { result ≡ answer_on explicit block kind row x }
 {
@@ -351,46 +296,25 @@ pub fn dispatch(
     kind: FileKind,
     row: Row,
     x: Call,
-) -> Answer
+) -> Result<Granted, Refusal>
     requires { (good_block block ≡ true) × (row.start + row.capacity / sector_bytes ≤ 2 ^ 40) }
     ensures { result ≡ dispatched readonly explicit block kind row x }
 {
-    let verdict = refuse(
-        readonly & changes(kind, x),
-        Refusal::ReadOnlyMount,
-        Verdict::Passed,
-    );
-    match verdict {
-        Verdict::Passed => answer_on(explicit, block, kind, row, x),
-        Verdict::Refused(y) => Answer::Refused(y),
-    }
+    refuse(readonly & changes(kind, x), Refusal::ReadOnlyMount)?;
+    answer_on(explicit, block, kind, row, x)
 }
 
 // Whether a call is an open of a sequential file, and whether it is a close of one.
 fn opens_file(kind: FileKind, x: Call) -> bool
     ensures { result ≡ opens_file kind x }
 {
-    match x {
-        Call::Read(_, _) => false,
-        Call::Write(_, _) => false,
-        Call::Truncate(_) => false,
-        Call::Flush => false,
-        Call::Open => !predicates::is_conventional(kind),
-        Call::Close => false,
-    }
+    matches!(x, Call::Open) & !predicates::is_conventional(kind)
 }
 
 fn closes_file(kind: FileKind, x: Call) -> bool
     ensures { result ≡ closes_file kind x }
 {
-    match x {
-        Call::Read(_, _) => false,
-        Call::Write(_, _) => false,
-        Call::Truncate(_) => false,
-        Call::Flush => false,
-        Call::Open => false,
-        Call::Close => !predicates::is_conventional(kind),
-    }
+    matches!(x, Call::Close) & !predicates::is_conventional(kind)
 }
 
 pub fn is_counting(kind: FileKind, x: Call) -> bool
@@ -403,7 +327,7 @@ pub fn is_counting(kind: FileKind, x: Call) -> bool
 fn one_less(opens: u64) -> u64
     ensures { result ≡ opens - 1 }
 {
-    if 0 < opens { opens - 1 } else { 0 }
+    opens.saturating_sub(1)
 }
 
 // The row once a call is commanded or answered: with one open more or less.
@@ -420,25 +344,21 @@ pub fn called(kind: FileKind, x: Call, row: Row) -> Row
     }
 }
 
-// The answer, or the refusal of checks before it.
-fn after(found: Verdict, answer: Answer) -> Answer
-    ensures { result ≡ answer_after found answer }
-{
-    match found {
-        Verdict::Passed => answer,
-        Verdict::Refused(x) => Answer::Refused(x),
-    }
-}
-
 // What the account finds of a call that was not refused so far: 11 and 12 of an open.
-fn limits_of(explicit: bool, account: Account, kind: FileKind, row: Row, x: Call) -> Verdict
+fn limits_of(
+    explicit: bool,
+    account: Account,
+    kind: FileKind,
+    row: Row,
+    x: Call,
+) -> Result<(), Refusal>
     requires { Countable kind x row }
     ensures { result ≡ limits_of explicit account kind row x }
 {
     if opens_file(kind, x) {
         account::limit_check(explicit, account, row, called(kind, x, row))
     } else {
-        Verdict::Passed
+        Ok(())
     }
 }
 
@@ -449,14 +369,12 @@ pub fn within_limits(
     kind: FileKind,
     row: Row,
     x: Call,
-    answer: Answer,
-) -> Answer
+    answer: Result<Granted, Refusal>,
+) -> Result<Granted, Refusal>
     requires { Settles kind x row answer }
     ensures { result ≡ limited (limits_of explicit account kind row x) answer }
 {
-    match answer {
-        Answer::Refused(_) => answer,
-        Answer::Done(_) => after(limits_of(explicit, account, kind, row, x), answer),
-        Answer::Issue(_) => after(limits_of(explicit, account, kind, row, x), answer),
-    }
+    let granted = answer?;
+    limits_of(explicit, account, kind, row, x)?;
+    Ok(granted)
 }

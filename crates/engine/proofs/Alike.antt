@@ -1,6 +1,7 @@
 -- What an input answers and stores hangs on the account by 10, 11 and 12 alone: at two states that differ in it, and else at most in rows of other files,
 -- an input that answers none of these at either does the same.
 -- Assumes nothing.
+use Rattle.std.specs.Prelude.{Ok, Err, Some, None}
 use Prim.Native.Nat.{ℕ}
 use mathlib.Core.Path.{◌≡◌, refl, sym, ◌∙◌}
 use mathlib.Core.Bool.{Bool, true, false, cond, ◌&&◌}
@@ -19,10 +20,9 @@ use Rattle.types.specs.declared.ErrorPolicy.{ErrorPolicy}
 use Rattle.types.specs.declared.ErrorPolicy.TheVariants.{RemountRo, ZoneRo, ZoneOffline, Repair}
 use Rattle.types.specs.declared.Refusal.{Refusal}
 use Rattle.types.specs.declared.Refusal.TheVariants as refusal
-use Rattle.types.specs.declared.Verdict.{Verdict}
-use Rattle.types.specs.declared.Verdict.TheVariants as verdict
-use Rattle.types.specs.declared.Answer.{Answer}
-use Rattle.types.specs.declared.Answer.TheVariants.{Refused, Done, Issue}
+use Rattle.types.specs.Answers.{Verdict}
+use Rattle.types.specs.Answers.{Answer}
+use Rattle.types.specs.declared.Granted.TheVariants.{Done, Issue}
 use Rattle.types.specs.declared.Effect.{Effect}
 use Rattle.types.specs.Codes.{is_kind}
 use Rattle.types.specs.Effects.{refusing}
@@ -30,21 +30,17 @@ use Rattle.types.specs.Kinds.{of_kind}
 use Rattle.types.specs.Mounts.{with_account}
 use Rattle.types.specs.Predicates.{is_busy}
 use Rattle.types.specs.Verdicts.{refuse, answer_after}
-use Rattle.table.specs.declared.Slot.{Slot}
-use Rattle.table.specs.declared.Slot.TheVariants as slot
+use Rattle.table.specs.Rows.{Slot}
 use Rattle.table.specs.Rows.{row_at, outstanding_in}
 use Rattle.account.specs.Account.{is_open, is_active, limit_check, raises, exceeds, counted, accounted}
 use Rattle.account.proofs.Laws.{accounted_mark}
-use Rattle.checks.specs.declared.Lookup.{Lookup}
-use Rattle.checks.specs.declared.Lookup.TheVariants as lookup
-use Rattle.checks.specs.declared.Checked.TheVariants as checked
+use Rattle.checks.specs.Checks.{Lookup}
 use Rattle.checks.specs.Checks.{counts_fit, no_kind, lookup_of, sound_row, sound_slot, found_row, file_of}
 use Rattle.decision.specs.Decision.{opens_file, counts, called, limits_of, limited, dispatched}
 use Rattle.calls.specs.Calls as calls
 use Rattle.recovery.specs.Fits.{record_fits, misfit}
 use Rattle.recovery.specs.Recovery.{nothing_lost, recovered_row, kept_open}
 use Rattle.recovery.specs.Success.{row_after}
-use Rattle.held.specs.declared.Pending.TheVariants as pending
 use Rattle.held.specs.Held.{issuable_on, held_on, hold_of, pending_by, pending_in, pending_of}
 use Rattle.completion.specs.Completions.{Completion, good, failed, malformed, marked_by, succeeded, failing, recovered, effect_on, effect_pending}
 use Rattle.completion.specs.Completions as completions
@@ -81,23 +77,23 @@ module _ (m : Mount) (b : Account) where
 
   -- WITHIN THE LIMITS, or 11 or 12
 
-  limit_cases : (P : Verdict → Type 0) (a : Account) (k : FileKind) (r : Row) (x : Call) → P verdict.Passed → P (verdict.Refused refusal.OpenLimit)
-      → P (verdict.Refused refusal.ActiveLimit) → P (limits_of m.volume.explicit a k r x)
+  limit_cases : (P : Verdict → Type 0) (a : Account) (k : FileKind) (r : Row) (x : Call) → P (Ok tt) → P (Err refusal.OpenLimit)
+      → P (Err refusal.ActiveLimit) → P (limits_of m.volume.explicit a k r x)
   unfolding limit_check refuse
   limit_cases P a k r x passed opens activates = by (opens_file k x)
     where
       after : Row
       after = called k x r
 
-      second : (t : Bool) → P (refuse t refusal.ActiveLimit verdict.Passed)
+      second : (t : Bool) → P (refuse t refusal.ActiveLimit (Ok tt))
       second true = activates
       second false = passed
 
-      first : (t u : Bool) → P (refuse t refusal.OpenLimit (refuse u refusal.ActiveLimit verdict.Passed))
+      first : (t u : Bool) → P (refuse t refusal.OpenLimit (refuse u refusal.ActiveLimit (Ok tt)))
       first true u = opens
       first false u = second u
 
-      by : (t : Bool) → P (cond t (limit_check m.volume.explicit a r after) verdict.Passed)
+      by : (t : Bool) → P (cond t (limit_check m.volume.explicit a r after) (Ok tt))
       by true =
           let e = m.volume.explicit in
           first (e && (raises (is_open r) (is_open after) && exceeds a.opened a.open_limit))
@@ -114,9 +110,9 @@ module _ (m : Mount) (b : Account) where
         by false = refl
 
     settled_same : (a : Answer) → SameEffect (calls.settled m k i r x a) (calls.settled other k i r x a)
-    settled_same (Refused y) = record { answer = refl; store = refl; mark = refl }
-    settled_same (Done count) = record { answer = refl; store = refl; mark = after_mark m ∙ sym (after_mark other) }
-    settled_same (Issue c) = record { answer = refl; store = refl; mark = after_mark m ∙ sym (after_mark other) }
+    settled_same (Err y) = record { answer = refl; store = refl; mark = refl }
+    settled_same (Ok (Done count)) = record { answer = refl; store = refl; mark = after_mark m ∙ sym (after_mark other) }
+    settled_same (Ok (Issue c)) = record { answer = refl; store = refl; mark = after_mark m ∙ sym (after_mark other) }
 
     -- one that the limits may turn into 11 or 12, on either side
     within_alike : (a : Answer) → ((v : Verdict) → limited v a ≡ answer_after v a) → Alike (calls.settled m k i r x (limited (limits_of m.volume.explicit m.account k r x) a))
@@ -133,9 +129,9 @@ module _ (m : Mount) (b : Account) where
     limited_alike : (a : Answer) → Alike (calls.settled m k i r x (limited (limits_of m.volume.explicit m.account k r x) a))
         (calls.settled other k i r x (limited (limits_of m.volume.explicit b k r x) a))
     unfolding limited
-    limited_alike (Refused y) = λ u v. settled_same (Refused y)
-    limited_alike (Done count) = within_alike (Done count) (λ v. refl)
-    limited_alike (Issue c) = within_alike (Issue c) (λ v. refl)
+    limited_alike (Err y) = λ u v. settled_same (Err y)
+    limited_alike (Ok (Done count)) = within_alike (Ok (Done count)) (λ v. refl)
+    limited_alike (Ok (Issue c)) = within_alike (Ok (Issue c)) (λ v. refl)
 
     row_alike : Alike (calls.settled m k i r x (calls.on_row m k r x)) (calls.settled other k i r x (calls.on_row other k r x))
     unfolding answer_after refuse
@@ -144,27 +140,27 @@ module _ (m : Mount) (b : Account) where
         answer : Answer
         answer = dispatched m.readonly m.volume.explicit m.volume.block k r x
 
-        by : (t : Bool) → Alike (calls.settled m k i r x (answer_after (refuse t refusal.Busy verdict.Passed) (limited (limits_of m.volume.explicit m.account k r x) answer)))
-            (calls.settled other k i r x (answer_after (refuse t refusal.Busy verdict.Passed) (limited (limits_of m.volume.explicit b k r x) answer)))
+        by : (t : Bool) → Alike (calls.settled m k i r x (answer_after (refuse t refusal.Busy (Ok tt)) (limited (limits_of m.volume.explicit m.account k r x) answer)))
+            (calls.settled other k i r x (answer_after (refuse t refusal.Busy (Ok tt)) (limited (limits_of m.volume.explicit b k r x) answer)))
         by true = same_refusal refusal.Busy
         by false = limited_alike answer
 
   -- THE TABLES may differ in rows of other files.
   module _ (c s d t : List ℕ) (k : FileKind) (i : ℕ) (same : row_at (of_kind k d t) i ≡ row_at (of_kind k c s) i) where
     -- a call
-    sound_alike : (x : Call) (r : Row) (p q : Bool) → Alike (calls.on_file m k i (cond p (checked.Good r) (checked.Refused refusal.Impossible)) x)
-        (calls.on_file other k i (cond q (checked.Good r) (checked.Refused refusal.Impossible)) x)
+    sound_alike : (x : Call) (r : Row) (p q : Bool) → Alike (calls.on_file m k i (cond p (Ok r) (Err refusal.Impossible)) x)
+        (calls.on_file other k i (cond q (Ok r) (Err refusal.Impossible)) x)
     sound_alike x r true true = row_alike k i r x
     sound_alike x r true false = imp_right
     sound_alike x r false q = imp_left
 
     found_alike : (x : Call) (l : Lookup) → Alike (calls.on_file m k i (found_row m k l) x) (calls.on_file other k i (found_row other k l) x)
-    found_alike x (lookup.Found (slot.Good r)) = sound_alike x r (sound_row m.volume.block k r && counted m k r) (sound_row m.volume.block k r && counted other k r)
-    found_alike x (lookup.Found (slot.Impossible o)) = imp_left
-    found_alike x lookup.Nothing = same_refusal refusal.NoFile
+    found_alike x (Some (Ok r)) = sound_alike x r (sound_row m.volume.block k r && counted m k r) (sound_row m.volume.block k r && counted other k r)
+    found_alike x (Some (Err o)) = imp_left
+    found_alike x None = same_refusal refusal.NoFile
 
-    counts_alike : (x : Call) (l : Lookup) (p q : Bool) → Alike (calls.on_file m k i (cond p (found_row m k l) (checked.Refused refusal.Impossible)) x)
-        (calls.on_file other k i (cond q (found_row other k l) (checked.Refused refusal.Impossible)) x)
+    counts_alike : (x : Call) (l : Lookup) (p q : Bool) → Alike (calls.on_file m k i (cond p (found_row m k l) (Err refusal.Impossible)) x)
+        (calls.on_file other k i (cond q (found_row other k l) (Err refusal.Impossible)) x)
     counts_alike x l true true = found_alike x l
     counts_alike x l true false = imp_right
     counts_alike x l false q = imp_left
@@ -204,27 +200,27 @@ module _ (m : Mount) (b : Account) where
     on_alike h r malformed = same_refusal _
 
     -- what it finds
-    issued_alike : (h : Held) (r : Row) (x : Completion) (p : Bool) → Alike (effect_pending m (cond p (pending.On h r) (pending.Refused refusal.Impossible)) x)
-        (effect_pending other (cond p (pending.On h r) (pending.Refused refusal.Impossible)) x)
+    issued_alike : (h : Held) (r : Row) (x : Completion) (p : Bool) → Alike (effect_pending m (cond p (Ok (h, r)) (Err refusal.Impossible)) x)
+        (effect_pending other (cond p (Ok (h, r)) (Err refusal.Impossible)) x)
     issued_alike h r x true = on_alike h r x
     issued_alike h r x false = imp_left
 
-    held_alike : (h : Held) (r : Row) (x : Completion) (p q : Bool) → Alike (effect_pending m (held_on m h (cond p (checked.Good r) (checked.Refused refusal.Impossible))) x)
-        (effect_pending other (held_on other h (cond q (checked.Good r) (checked.Refused refusal.Impossible))) x)
+    held_alike : (h : Held) (r : Row) (x : Completion) (p q : Bool) → Alike (effect_pending m (held_on m h (cond p (Ok r) (Err refusal.Impossible))) x)
+        (effect_pending other (held_on other h (cond q (Ok r) (Err refusal.Impossible))) x)
     held_alike h r x true true = issued_alike h r x (issuable_on m h r)
     held_alike h r x true false = imp_right
     held_alike h r x false q = imp_left
 
     slot_alike : (l : Slot) (o : Outstanding) (x : Completion) → Alike (effect_pending m (pending_by m k i (sound_slot m k l) o) x) (effect_pending other (pending_by other k i (sound_slot other k l) o) x)
     slot_alike l Idle x = same_refusal refusal.NothingOutstanding
-    slot_alike (slot.Good r) (Busy e) x = held_alike (hold_of k i e) r x (sound_row m.volume.block k r && counted m k r) (sound_row m.volume.block k r && counted other k r)
-    slot_alike (slot.Impossible o) (Busy e) x = imp_left
+    slot_alike (Ok r) (Busy e) x = held_alike (hold_of k i e) r x (sound_row m.volume.block k r && counted m k r) (sound_row m.volume.block k r && counted other k r)
+    slot_alike (Err o) (Busy e) x = imp_left
     slot_alike l Unknown x = imp_left
 
-    pending_alike : (l : Lookup) (x : Completion) (p q : Bool) → Alike (effect_pending m (cond p (pending_in m k i l) (pending.Refused refusal.Impossible)) x)
-        (effect_pending other (cond q (pending_in other k i l) (pending.Refused refusal.Impossible)) x)
-    pending_alike (lookup.Found l) x true true = slot_alike l (outstanding_in l) x
-    pending_alike lookup.Nothing x true true = same_refusal refusal.NoFile
+    pending_alike : (l : Lookup) (x : Completion) (p q : Bool) → Alike (effect_pending m (cond p (pending_in m k i l) (Err refusal.Impossible)) x)
+        (effect_pending other (cond q (pending_in other k i l) (Err refusal.Impossible)) x)
+    pending_alike (Some l) x true true = slot_alike l (outstanding_in l) x
+    pending_alike None x true true = same_refusal refusal.NoFile
     pending_alike l x true false = imp_right
     pending_alike l x false q = imp_left
 

@@ -1,5 +1,6 @@
 -- A permitted append is issued as its one command, and no other write to a sequential file is.
 -- Assumes nothing.
+use Rattle.std.specs.Prelude.{Ok}
 use Prim.Native.Nat.{ℕ, ◌%◌}
 use native.Mathlib.Omega.{arith}
 use mathlib.Core.Bool.{Bool, true, false, not, ◌&&◌, ◌||◌, false≢true}
@@ -11,7 +12,7 @@ use Rattle.types.specs.declared.Call.{Call}
 use Rattle.types.specs.declared.FileKind.TheVariants.{Sequential}
 use Rattle.types.specs.declared.Access.{Access}
 use Rattle.types.specs.declared.Access.TheVariants as access
-use Rattle.types.specs.declared.Answer.TheVariants.{Issue}
+use Rattle.types.specs.declared.Granted.TheVariants.{Issue}
 use Rattle.types.specs.Blocks.{on_block}
 use Rattle.types.proofs.Tests.{and_right, or_left, or_right}
 use Rattle.checks.proofs.Laws.{reached_sound}
@@ -47,7 +48,7 @@ module _ (s : State) (n : ℕ) (r : Row) (o l : ℕ) where
   append-opened true h = rw (h refl)
   append-opened false h = refl
 
-  append_answer : Permitted s n r o l → dispatched s.mount.readonly s.mount.volume.explicit s.mount.volume.block Sequential r (Call.Write o l) ≡ Issue (append_command r o l)
+  append_answer : Permitted s n r o l → dispatched s.mount.readonly s.mount.volume.explicit s.mount.volume.block Sequential r (Call.Write o l) ≡ Ok (Issue (append_command r o l))
   append_answer p =
       dispatch_passes s.mount.readonly s.mount.volume.explicit s.mount.volume.block Sequential r (Call.Write o l) (rw p.writable)
       ∙ write-issues s.mount.volume.explicit s.mount.volume.block Sequential r o l (append_command r o l)

@@ -1,5 +1,6 @@
 -- Inputs about different files commute, where neither marks the mount read-only and the account is true and not read.
 -- Assumes nothing.
+use Rattle.std.specs.Prelude.{Some, None}
 use Prim.Native.Nat.{ℕ, suc, ◌+◌, ◌*◌, ◌≤◌, ◌<◌}
 use native.Mathlib.Omega.{arith}
 use mathlib.Core.Path.{◌≡◌, refl, sym, ap, ◌∙◌, subst}
@@ -14,8 +15,7 @@ use Rattle.types.specs.declared.Volume.{Volume}
 use Rattle.types.specs.declared.Row.{Row}
 use Rattle.types.specs.declared.FileKind.{FileKind}
 use Rattle.types.specs.declared.FileKind.TheVariants.{Conventional, Sequential}
-use Rattle.types.specs.declared.Store.{Store}
-use Rattle.types.specs.declared.Store.TheVariants as store
+use Rattle.types.specs.Answers.{Store}
 use Rattle.types.specs.Codes.{kind_code, kind_from}
 use Rattle.types.specs.Mounts.{with_account}
 use Rattle.types.proofs.CodeLaws.{kind_there}
@@ -61,17 +61,17 @@ rows_commute t i j r q d =
 -- of two files, in either table
 stores_commute : (f : FileKind) (x y : Input) (d e : Store) (t : List ℕ) → OfFile (kind_in x) (number_in x) d → OfFile (kind_in y) (number_in y) e → Apart x y
     → stored f e (stored f d t) ≡ stored f d (stored f e t)
-stores_commute f x y store.Nothing store.Nothing t a b apart = refl
-stores_commute f x y store.Nothing (store.Put l j q) t a b apart = refl
-stores_commute f x y (store.Put k i r) store.Nothing t a b apart = refl
-stores_commute Conventional x y (store.Put Conventional i r) (store.Put Conventional j q) t (a, m) (b, n) apart = rows_commute t i j r q (λ e. apart (sym a ∙ b) (sym m ∙ e ∙ n))
-stores_commute Conventional x y (store.Put Conventional i r) (store.Put Sequential j q) t a b apart = refl
-stores_commute Conventional x y (store.Put Sequential i r) (store.Put Conventional j q) t a b apart = refl
-stores_commute Conventional x y (store.Put Sequential i r) (store.Put Sequential j q) t a b apart = refl
-stores_commute Sequential x y (store.Put Conventional i r) (store.Put Conventional j q) t a b apart = refl
-stores_commute Sequential x y (store.Put Conventional i r) (store.Put Sequential j q) t a b apart = refl
-stores_commute Sequential x y (store.Put Sequential i r) (store.Put Conventional j q) t a b apart = refl
-stores_commute Sequential x y (store.Put Sequential i r) (store.Put Sequential j q) t (a, m) (b, n) apart = rows_commute t i j r q (λ e. apart (sym a ∙ b) (sym m ∙ e ∙ n))
+stores_commute f x y None None t a b apart = refl
+stores_commute f x y None (Some (l, j, q)) t a b apart = refl
+stores_commute f x y (Some (k, i, r)) None t a b apart = refl
+stores_commute Conventional x y (Some (Conventional, i, r)) (Some (Conventional, j, q)) t (a, m) (b, n) apart = rows_commute t i j r q (λ e. apart (sym a ∙ b) (sym m ∙ e ∙ n))
+stores_commute Conventional x y (Some (Conventional, i, r)) (Some (Sequential, j, q)) t a b apart = refl
+stores_commute Conventional x y (Some (Sequential, i, r)) (Some (Conventional, j, q)) t a b apart = refl
+stores_commute Conventional x y (Some (Sequential, i, r)) (Some (Sequential, j, q)) t a b apart = refl
+stores_commute Sequential x y (Some (Conventional, i, r)) (Some (Conventional, j, q)) t a b apart = refl
+stores_commute Sequential x y (Some (Conventional, i, r)) (Some (Sequential, j, q)) t a b apart = refl
+stores_commute Sequential x y (Some (Sequential, i, r)) (Some (Conventional, j, q)) t a b apart = refl
+stores_commute Sequential x y (Some (Sequential, i, r)) (Some (Sequential, j, q)) t (a, m) (b, n) apart = rows_commute t i j r q (λ e. apart (sym a ∙ b) (sym m ∙ e ∙ n))
 
 -- AN EFFECT looks at the mount, its account aside, and at the row of the file that it names.
 effects_alike : (s t : State) (x : Input) → ((k : FileKind) → kind_code k ≡ kind_in x → row_at (table_of k t) (number_in x) ≡ row_at (table_of k s) (number_in x))

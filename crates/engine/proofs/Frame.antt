@@ -1,5 +1,6 @@
 -- The frame claim, and what stands beside it.
 -- Assumes nothing.
+use Rattle.std.specs.Prelude.{Ok, Err, Some, None}
 use Prim.Native.Nat.{ℕ, ◌/◌}
 use native.Mathlib.Omega.{arith}
 use mathlib.Core.Path.{◌≡◌, refl, sym, ap, ◌∙◌}
@@ -12,12 +13,10 @@ use Rattle.types.specs.declared.Held.{Held}
 use Rattle.types.specs.declared.FileKind.{FileKind}
 use Rattle.types.specs.declared.Refusal.{Refusal}
 use Rattle.types.specs.declared.Refusal.TheVariants as refusal
-use Rattle.types.specs.declared.ZoneFault.TheVariants as fault
-use Rattle.types.specs.declared.Answer.{Answer}
-use Rattle.types.specs.declared.Answer.TheVariants.{Refused, Done, Issue}
+use Rattle.types.specs.Answers.{Answer}
+use Rattle.types.specs.declared.Granted.TheVariants.{Done, Issue}
 use Rattle.types.specs.declared.Effect.{Effect}
-use Rattle.types.specs.declared.Store.{Store}
-use Rattle.types.specs.declared.Store.TheVariants as store
+use Rattle.types.specs.Answers.{Store}
 use Rattle.types.specs.declared.Call.{Call}
 use Rattle.types.specs.Codes.{kind_code, kind_from}
 use Rattle.types.specs.Effects.{refusing}
@@ -32,8 +31,7 @@ use Rattle.calls.proofs.Laws as called
 use Rattle.zones.specs.declared.Zone.{Zone}
 use Rattle.recovery.specs.Fits.{record_fits, misfit}
 use Rattle.recovery.specs.Recovery.{nothing_lost, recovered_row, kept_open}
-use Rattle.held.specs.declared.Pending.{Pending}
-use Rattle.held.specs.declared.Pending.TheVariants as pending
+use Rattle.held.specs.Held.{Pending}
 use Rattle.held.specs.Held.{pending_of}
 use Rattle.completion.specs.Completions.{Completion, good, failed, malformed, succeeded, marked_by, recovered, failing, effect_on, effect_pending}
 use Rattle.completion.proofs.Laws.{either}
@@ -49,9 +47,9 @@ module _ (s : State) where
 
   settled_spares : (k : FileKind) (n : ℕ) (r : Row) (x : Call) (a : Answer) → (calls.settled s.mount k n r x a).outcome.mount.readonly ≡ s.mount.readonly
       → Spares s (calls.settled s.mount k n r x a)
-  settled_spares k n r x (Refused y) h = refusing_spares y
-  settled_spares k n r x (Done count) h = record { mark = λ e. h; refused = λ e f. absurd (e refl) }
-  settled_spares k n r x (Issue c) h = record { mark = λ e. h; refused = λ e f. absurd (e refl) }
+  settled_spares k n r x (Err y) h = refusing_spares y
+  settled_spares k n r x (Ok (Done count)) h = record { mark = λ e. h; refused = λ e f. absurd (e refl) }
+  settled_spares k n r x (Ok (Issue c)) h = record { mark = λ e. h; refused = λ e f. absurd (e refl) }
 
   -- a command that failed
   failing_spares : (m : Mount) (h : Held) (r : Row) → Spares s (failing m h r)
@@ -69,11 +67,11 @@ module _ (s : State) where
   effect_spares h r good = record { mark = λ e. accounted_mark s.mount h.kind r _; refused = λ e f. absurd (e refl) }
   effect_spares h r (failed z) =
       either (Spares s) (record_fits s.mount.volume.block h.kind r z) _ _ (recovered_spares h r z) (refusing_spares (refusal.BadRecord (misfit s.mount.volume.block h.kind r z)))
-  effect_spares h r malformed = refusing_spares (refusal.BadRecord fault.Nothing)
+  effect_spares h r malformed = refusing_spares (refusal.BadRecord None)
 
   pending_spares : (p : Pending) (x : Completion) → Spares s (effect_pending s.mount p x)
-  pending_spares (pending.On h r) x = effect_spares h r x
-  pending_spares (pending.Refused y) x = refusing_spares y
+  pending_spares (Ok (h, r)) x = effect_spares h r x
+  pending_spares (Err y) x = refusing_spares y
 
   input_spares : (x : Input) → Spares s (effect_of s x)
   input_spares (call kind n x) =
@@ -87,13 +85,13 @@ module _ (s : State) where
 
 -- WHAT A STORE KEEPS of a table
 stored-words : (x : Input) (k : FileKind) (d : Store) (t : List ℕ) (j : ℕ) → OfFile (kind_in x) (number_in x) d → Other x k (j / row_width) → get_or (stored k d t) j 0 ≡ get_or t j 0
-stored-words x k store.Nothing t j of other = refl
-stored-words x k (store.Put f n r) t j (kind, number) other =
+stored-words x k None t j of other = refl
+stored-words x k (Some (f, n, r)) t j (kind, number) other =
     stored_either (λ u. get_or u j 0 ≡ get_or t j 0) f n r k t (λ e. word_outside t n j r (λ q. other (ap kind_code (sym e) ∙ kind) (q ∙ number))) refl
 
 pub stored_rows : (x : Input) (k : FileKind) (d : Store) (t : List ℕ) (n : ℕ) → OfFile (kind_in x) (number_in x) d → Other x k n → row_at (stored k d t) n ≡ row_at t n
-stored_rows x k store.Nothing t n of other = refl
-stored_rows x k (store.Put f i r) t n (kind, number) other =
+stored_rows x k None t n of other = refl
+stored_rows x k (Some (f, i, r)) t n (kind, number) other =
     stored_either (λ u. row_at u n ≡ row_at t n) f i r k t (λ e. row_at_other t i n r (λ q. other (ap kind_code (sym e) ∙ kind) (sym q ∙ number))) refl
 
 tables_keep : (s : State) (x : Input) (k : FileKind) → TableKeeps s x (applied s (effect_of s x)) k
@@ -115,9 +113,9 @@ frame s x =
 -- A CALL never moves the mark, and the account only by an open or a close.
 settled_still : (s : State) (k : FileKind) (n : ℕ) (r : Row) (x : Call) (a : Answer) → counts k x ≡ false → (count : ℕ)
     → Still s count (calls.settled s.mount k n r x a)
-settled_still s k n r x (Refused y) e count f = refl
-settled_still s k n r x (Done y) e count f = rw e
-settled_still s k n r x (Issue c) e count f = let z : ◌≡◌ {A = ℕ} 0 1 = cc in absurd (omega arith)
+settled_still s k n r x (Err y) e count f = refl
+settled_still s k n r x (Ok (Done y)) e count f = rw e
+settled_still s k n r x (Ok (Issue c)) e count f = let z : ◌≡◌ {A = ℕ} 0 1 = cc in absurd (omega arith)
 
 pub calls_keep : CallsKeep
 unfolding CallsKeep step

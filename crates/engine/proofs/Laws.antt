@@ -1,5 +1,6 @@
 -- What a step is, from the effect that its call or completion has; which row that effect stores; and what a step leaves of the mount.
 -- Assumes nothing.
+use Rattle.std.specs.Prelude.{Ok, Err, Some, None}
 use Prim.Native.Nat.{ℕ}
 use mathlib.Core.Path.{◌≡◌, refl, ap, ◌∙◌, sym, subst}
 use mathlib.Core.Bool.{Bool, true, false, cond}
@@ -9,12 +10,11 @@ use Rattle.types.specs.declared.Mount.{Mount}
 use Rattle.types.specs.declared.Row.{Row}
 use Rattle.types.specs.declared.FileKind.{FileKind}
 use Rattle.types.specs.declared.Call.{Call}
-use Rattle.types.specs.declared.Answer.{Answer}
-use Rattle.types.specs.declared.Answer.TheVariants.{Refused, Done, Issue}
+use Rattle.types.specs.Answers.{Answer}
+use Rattle.types.specs.declared.Granted.TheVariants.{Done, Issue}
 use Rattle.types.specs.declared.Outcome.{Outcome}
 use Rattle.types.specs.declared.Effect.{Effect}
-use Rattle.types.specs.declared.Store.{Store}
-use Rattle.types.specs.declared.Store.TheVariants as store
+use Rattle.types.specs.Answers.{Store}
 use Rattle.types.specs.Codes.{kind_code, is_kind, kind_from}
 use Rattle.types.specs.Effects.{refusing}
 use Rattle.types.proofs.CodeLaws.{kind_there}
@@ -25,8 +25,7 @@ use Rattle.decision.specs.Decision as decision
 use Rattle.decision.specs.Decision.{counts}
 use Rattle.calls.specs.Calls as calls
 use Rattle.calls.proofs.Laws as called
-use Rattle.held.specs.declared.Pending.{Pending}
-use Rattle.held.specs.declared.Pending.TheVariants as pending
+use Rattle.held.specs.Held.{Pending}
 use Rattle.held.specs.Held.{pending_of}
 use Rattle.held.specs.Facts.{PendingTells}
 use Rattle.held.proofs.Laws.{pending_tells}
@@ -75,26 +74,26 @@ effect_fits s (completion kind n x) =
 
 -- THE ROW THAT IS STORED is that of the file which the input names.
 abbrev pub OfFile : (kind n : ℕ) → Store → Type 0
-OfFile kind n store.Nothing = Unit
-OfFile kind n (store.Put k i r) = (kind_code k ≡ kind) × (i ≡ n)
+OfFile kind n None = Unit
+OfFile kind n (Some (k, i, r)) = (kind_code k ≡ kind) × (i ≡ n)
 
 settled_names : (m : Mount) (k : FileKind) (i : ℕ) (r : Row) (x : Call) (a : Answer) → OfFile (kind_code k) i (calls.settled m k i r x a).store
-settled_names m k i r x (Refused y) = tt
-settled_names m k i r x (Done count) = by (counts k x)
+settled_names m k i r x (Err y) = tt
+settled_names m k i r x (Ok (Done count)) = by (counts k x)
   where
-    by : (t : Bool) → OfFile (kind_code k) i (cond t (store.Put k i (decision.called k x r)) store.Nothing)
+    by : (t : Bool) → OfFile (kind_code k) i (cond t (Some (k, i, decision.called k x r)) None)
     by true = (refl, refl)
     by false = tt
-settled_names m k i r x (Issue c) = (refl, refl)
+settled_names m k i r x (Ok (Issue c)) = (refl, refl)
 
 pending_names : (m : Mount) (cnv seq : List ℕ) (k : FileKind) (i : ℕ) (p : Pending) (x : Completion) → PendingTells m cnv seq k i p → OfFile (kind_code k) i (effect_pending m p x).store
 unfolding succeeded recovered
-pending_names m cnv seq k i (pending.Refused y) x w = tt
-pending_names m cnv seq k i (pending.On h r) Completion.good (w, (e, f)) = (ap kind_code e, f)
-pending_names m cnv seq k i (pending.On h r) (Completion.failed z) (w, (e, f)) =
+pending_names m cnv seq k i (Err y) x w = tt
+pending_names m cnv seq k i (Ok (h, r)) Completion.good (w, (e, f)) = (ap kind_code e, f)
+pending_names m cnv seq k i (Ok (h, r)) (Completion.failed z) (w, (e, f)) =
     let P : Effect → Type 0 = λ d. OfFile (kind_code k) i d.store in
     either P (record_fits m.volume.block h.kind r z) _ _ (either P (nothing_lost h.kind h.command.kind z r.size) _ _ (ap kind_code e, f) (ap kind_code e, f)) tt
-pending_names m cnv seq k i (pending.On h r) Completion.malformed w = tt
+pending_names m cnv seq k i (Ok (h, r)) Completion.malformed w = tt
 
 pub effect_names : (s : State) (x : Input) → OfFile (kind_in x) (number_in x) (effect_of s x).store
 effect_names s (call kind n x) =

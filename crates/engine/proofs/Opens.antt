@@ -1,5 +1,6 @@
 -- Opens of a file that is open: each is answered at once, until the file has 65,535, and the next is refused.
 -- Assumes nothing.
+use Rattle.std.specs.Prelude.{Ok, Err}
 use Prim.Native.Nat.{ℕ, zero, suc, ◌+◌, ◌≤◌, ◌<◌}
 use native.Mathlib.Omega.{arith}
 use mathlib.Core.Path.{◌≡◌, refl, sym, ap, ◌∙◌}
@@ -11,9 +12,8 @@ use Rattle.types.specs.declared.Row.{Row}
 use Rattle.types.specs.declared.Call.{Call}
 use Rattle.types.specs.declared.FileKind.TheVariants.{Sequential}
 use Rattle.types.specs.declared.Refusal.TheVariants.{TooManyOpens}
-use Rattle.types.specs.declared.Verdict.TheVariants.{Passed}
-use Rattle.types.specs.declared.Answer.{Answer}
-use Rattle.types.specs.declared.Answer.TheVariants.{Refused, Done}
+use Rattle.types.specs.Answers.{Answer}
+use Rattle.types.specs.declared.Granted.TheVariants.{Done}
 use Rattle.types.specs.Codes.{kind_code}
 use Rattle.types.specs.Verdicts.{refuse, answer_after}
 use Rattle.types.proofs.VerdictLaws.{check_passes, after-passes}
@@ -54,7 +54,7 @@ module _ (s : State) (n : ℕ) (r : Row) (w : OpenFile s n r) where
   still_active e m h = rw (is_open_lem, still_open m h)
 
   -- neither 11 nor 12: an open that is not the first raises no count
-  no_limit : limits_of s.mount.volume.explicit s.mount.account Sequential r Call.Open ≡ Passed
+  no_limit : limits_of s.mount.volume.explicit s.mount.account Sequential r Call.Open ≡ Ok tt
   unfolding limit_check
   no_limit =
       let e = s.mount.volume.explicit in
@@ -76,16 +76,16 @@ module _ (s : State) (n : ℕ) (r : Row) (w : OpenFile s n r) where
   writes = rw w.writable
 
   -- the open itself
-  at_once_lem : (e : Bool) → opening e r ≡ Done 0
+  at_once_lem : (e : Bool) → opening e r ≡ Ok (Done 0)
   unfolding at_once
   at_once_lem true = rw is_open_lem
   at_once_lem false = refl
 
-  opened_row : (e : Bool) → r.opens < most_opens → open_row e Sequential r ≡ Done 0
+  opened_row : (e : Bool) → r.opens < most_opens → open_row e Sequential r ≡ Ok (Done 0)
   unfolding open_row open_checks
   opened_row e h = after-passes (check_passes _ (rw w.access) (check_passes _ (lt-leb most_opens r.opens h) refl)) ∙ at_once_lem e
 
-  too_many : (e : Bool) → most_opens ≤ r.opens → open_row e Sequential r ≡ Refused TooManyOpens
+  too_many : (e : Bool) → most_opens ≤ r.opens → open_row e Sequential r ≡ Err TooManyOpens
   unfolding open_row open_checks answer_after refuse
   too_many e h = rw (w.access, le-leb most_opens r.opens h)
 
@@ -107,14 +107,14 @@ module _ (s : State) (n : ℕ) (r : Row) (w : OpenFile s n r) where
   mount_stays : accounted s.mount Sequential r row ≡ s.mount
   mount_stays = uncounted s.mount Sequential r row (is_open_lem ∙ sym (still_open (r.opens + 1) (omega arith))) (still_active s.mount.volume.explicit (r.opens + 1) (omega arith))
 
-  one_more : r.opens < most_opens → step s (open_of n) ≡ record { reply = Done 0; state = after }
+  one_more : r.opens < most_opens → step s (open_of n) ≡ record { reply = Ok (Done 0); state = after }
   unfolding explicit
   one_more h =
-      answered (Done 0) (opened_row s.mount.volume.explicit h)
+      answered (Ok (Done 0)) (opened_row s.mount.volume.explicit h)
       ∙ ap with_mount mount_stays
     where
       with_mount : Mount → Step
-      with_mount m = record { reply = Done 0; state = record { mount = m; cnv = s.cnv; seq = set_row s.seq n row } }
+      with_mount m = record { reply = Ok (Done 0); state = record { mount = m; cnv = s.cnv; seq = set_row s.seq n row } }
 
   sound_after : SoundRow s.mount.volume.block Sequential row
   sound_after =
@@ -165,13 +165,13 @@ further_opens s n r w (suc m) h =
     let e = one_more s n r w (omega arith) in
     let rest = further_opens (after s n r w) n (row s n r w) (file_after s n r w) m (omega arith) in
     let q : r.opens + 1 + m ≡ r.opens + suc m = omega arith in
-    rw e (record { replies = ap (λ (l : List Answer). Done 0 ∷ l) rest.replies; file = rw q at rest.file })
+    rw e (record { replies = ap (λ (l : List Answer). Ok (Done 0) ∷ l) rest.replies; file = rw q at rest.file })
 
 pub last_open : LastOpen
 unfolding LastOpen run
 last_open s n r w zero h =
-    let e = answered s n r w (Refused TooManyOpens) (too_many s n r w _ (omega arith)) in
+    let e = answered s n r w (Err TooManyOpens) (too_many s n r w _ (omega arith)) in
     rw e
 last_open s n r w (suc m) h =
     let e = one_more s n r w (omega arith) in
-    rw e (ap (λ (l : List Answer). Done 0 ∷ l) (last_open (after s n r w) n (row s n r w) (file_after s n r w) m (omega arith)))
+    rw e (ap (λ (l : List Answer). Ok (Done 0) ∷ l) (last_open (after s n r w) n (row s n r w) (file_after s n r w) m (omega arith)))

@@ -1,13 +1,13 @@
 -- The promise of an append: a write to a sequential file that is permitted is never refused, and never answered without its one command;
 -- and no other write to a sequential file is commanded. For any mount value and tables whatever.
-use Rattle.std.specs.Prelude.{ℕ, ◌+◌, ◌%◌, ◌≤◌, ◌<◌, true, false, ◌≡◌}
+use Rattle.std.specs.Prelude.{ℕ, ◌+◌, ◌%◌, ◌≤◌, ◌<◌, true, false, ◌≡◌, Ok}
 use Rattle.types.specs.declared.Row.{Row}
 use Rattle.types.specs.declared.Call.{Call}
 use Rattle.types.specs.declared.Command.{Command}
 use Rattle.types.specs.declared.CommandKind.TheVariants.{Write}
 use Rattle.types.specs.declared.FileKind.TheVariants.{Sequential}
 use Rattle.types.specs.declared.Access.TheVariants as access
-use Rattle.types.specs.declared.Answer.TheVariants.{Issue}
+use Rattle.types.specs.declared.Granted.TheVariants.{Issue}
 use Rattle.types.specs.declared.Outstanding.TheVariants.{Idle}
 use Rattle.types.specs.Blocks.{bytes_of}
 use Rattle.types.specs.Codes.{kind_code}
@@ -39,7 +39,7 @@ write s n offset length = step s (Input.call (kind_code Sequential) n (Call.Writ
 -- the command, and the state with it outstanding on its file and nothing else changed
 abbrev pub commanded : State → ℕ → Row → Command → Step
 commanded s n r c =
-    record { reply = Issue c; state = record { mount = s.mount; cnv = s.cnv; seq = set_row s.seq n (holding r c) } }
+    record { reply = Ok (Issue c); state = record { mount = s.mount; cnv = s.cnv; seq = set_row s.seq n (holding r c) } }
 
 unfoldable pub AppendCommanded : Type 0
 AppendCommanded =
@@ -47,5 +47,5 @@ AppendCommanded =
 
 unfoldable pub OnlyAppends : Type 0
 OnlyAppends =
-    (s : State) (n offset length : ℕ) (c : Command) → (write s n offset length).reply ≡ Issue c
+    (s : State) (n offset length : ℕ) (c : Command) → (write s n offset length).reply ≡ Ok (Issue c)
     → (r : Row) × (Permitted s n r offset length × (append_command r offset length ≡ c))

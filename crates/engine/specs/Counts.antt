@@ -1,11 +1,11 @@
 -- The account, 02: "From a mount on, after any calls and completions, both numbers are the true counts.", "only 10, 11 and 12 may read it", and what
 -- there is without the option.
-use Rattle.std.specs.Prelude.{ℕ, ◌≡◌, ◌≢◌, false, List}
+use Rattle.std.specs.Prelude.{ℕ, ◌≡◌, ◌≢◌, false, List, Ok}
 use Rattle.types.specs.declared.Account.{Account}
 use Rattle.types.specs.declared.Call.{Call}
 use Rattle.types.specs.declared.Command.{Command}
-use Rattle.types.specs.declared.Answer.{Answer}
-use Rattle.types.specs.declared.Answer.TheVariants.{Issue}
+use Rattle.types.specs.Answers.{Answer}
+use Rattle.types.specs.declared.Granted.TheVariants.{Issue}
 use Rattle.types.specs.declared.Refusal.TheVariants as refusal
 use Rattle.types.specs.Commands.{opens_or_closes}
 use Rattle.types.specs.Mounts.{with_account}
@@ -60,7 +60,7 @@ OnlyThreeRead =
 pub record Plain (x : Call) (a : Answer) : Type 0 where
   pub opens : answer_number a ≢ refusal_number refusal.OpenLimit
   pub activates : answer_number a ≢ refusal_number refusal.ActiveLimit
-  pub commands : (c : Command) → a ≡ Issue c → opens_or_closes c.kind ≡ false
+  pub commands : (c : Command) → a ≡ Ok (Issue c) → opens_or_closes c.kind ≡ false
   pub writes : (offset length : ℕ) → x ≡ Call.Write offset length → answer_number a ≢ refusal_number refusal.NotOpen
 
 unfoldable pub WithoutOption : Type 0

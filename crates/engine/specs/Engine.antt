@@ -4,7 +4,7 @@ use Rattle.std.specs.Prelude.{ℕ, List, [], ◌∷◌}
 use Rattle.types.specs.declared.Mount.{Mount}
 use Rattle.types.specs.declared.FileKind.TheVariants.{Conventional, Sequential}
 use Rattle.types.specs.declared.Call.{Call}
-use Rattle.types.specs.declared.Answer.{Answer}
+use Rattle.types.specs.Answers.{Answer}
 use Rattle.types.specs.declared.Effect.{Effect}
 use Rattle.table.specs.Rows.{stored}
 use Rattle.mount.specs.Mount.{Mounting}

@@ -1,10 +1,10 @@
 -- The last sentence of demand 3, for any mount value and tables whatever: a call or a completion alters at most the row that it concerns;
 -- beyond that only the read-only mark can move, and 02: "the account may move too"; and "All but 7 change nothing.", those answered 0 aside.
 -- "A call concerns the row of the file it names, a completion that of the held command", whose file it names since 02.
-use Rattle.std.specs.Prelude.{ℕ, ◌/◌, ◌≡◌, false, List, ◌≢◌, length, get_or}
+use Rattle.std.specs.Prelude.{ℕ, ◌/◌, ◌≡◌, false, List, ◌≢◌, length, get_or, Ok}
 use Rattle.types.specs.declared.Call.{Call}
 use Rattle.types.specs.declared.FileKind.{FileKind}
-use Rattle.types.specs.declared.Answer.TheVariants.{Done}
+use Rattle.types.specs.declared.Granted.TheVariants.{Done}
 use Rattle.types.specs.Codes.{kind_code, kind_from}
 use Rattle.types.specs.Kinds.{of_kind}
 use Rattle.types.specs.Numbers.{answer_number}
@@ -54,7 +54,7 @@ Frame = (s : State) (x : Input) → Keeps s x (step s x)
 pub record CallKeeps (s : State) (kind : ℕ) (x : Call) (t : Step) : Type 0 where
   pub mark : t.state.mount.readonly ≡ s.mount.readonly
   pub mount : counts (kind_from kind) x ≡ false → t.state.mount ≡ s.mount
-  pub at_once : counts (kind_from kind) x ≡ false → (count : ℕ) → t.reply ≡ Done count → t.state ≡ s
+  pub at_once : counts (kind_from kind) x ≡ false → (count : ℕ) → t.reply ≡ Ok (Done count) → t.state ≡ s
 
 unfoldable pub CallsKeep : Type 0
 CallsKeep = (s : State) (kind n : ℕ) (x : Call) → CallKeeps s kind x (step s (call kind n x))

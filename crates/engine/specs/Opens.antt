@@ -1,11 +1,11 @@
 -- 02: "A 65,536th open of one file answers 14": a file that is open takes opens until it has 65,535, each answered 0, and then none. For any state.
-use Rattle.std.specs.Prelude.{ℕ, suc, ◌+◌, ◌≤◌, ◌<◌, false, ◌≡◌, List, [], ◌∷◌, ◌++◌, replicate}
+use Rattle.std.specs.Prelude.{ℕ, suc, ◌+◌, ◌≤◌, ◌<◌, false, ◌≡◌, List, [], ◌∷◌, ◌++◌, replicate, Ok, Err}
 use Rattle.types.specs.declared.Row.{Row}
 use Rattle.types.specs.declared.Call.{Call}
 use Rattle.types.specs.declared.FileKind.TheVariants.{Sequential}
 use Rattle.types.specs.declared.Access.TheVariants as access
 use Rattle.types.specs.declared.Refusal.TheVariants.{TooManyOpens}
-use Rattle.types.specs.declared.Answer.TheVariants.{Refused, Done}
+use Rattle.types.specs.declared.Granted.TheVariants.{Done}
 use Rattle.types.specs.declared.Outstanding.TheVariants.{Idle}
 use Rattle.types.specs.Codes.{kind_code}
 use Rattle.table.specs.Rows.{with_opens}
@@ -26,7 +26,7 @@ opens_of n times = replicate times (Input.call (kind_code Sequential) n Call.Ope
 
 -- so many opens are answered at once, and the file has so many more
 pub record Further (n : ℕ) (r : Row) (times : ℕ) (t : Run) : Type 0 where
-  pub replies : t.replies ≡ replicate times (Done 0)
+  pub replies : t.replies ≡ replicate times (Ok (Done 0))
   pub file : OpenFile t.state n (with_opens r (r.opens + times))
 
 unfoldable pub FurtherOpens : Type 0
@@ -36,4 +36,4 @@ FurtherOpens = (s : State) (n : ℕ) (r : Row) → OpenFile s n r → (times : �
 unfoldable pub LastOpen : Type 0
 LastOpen =
     (s : State) (n : ℕ) (r : Row) → OpenFile s n r → (times : ℕ) → r.opens + times ≡ most_opens
-    → (run s (opens_of n (suc times))).replies ≡ replicate times (Done 0) ++ Refused TooManyOpens ∷ []
+    → (run s (opens_of n (suc times))).replies ≡ replicate times (Ok (Done 0)) ++ Err TooManyOpens ∷ []

@@ -15,8 +15,7 @@ fn apply(cnv: &mut [u64], seq: &mut [u64], effect: Effect) -> Outcome
     requires { StoreFits cnv.old seq.old effect.store }
     ensures { (m : Mount) → step_by (state_of m cnv.old seq.old) effect ≡ step_of result cnv.new seq.new }
 {
-    let store = effect.store;
-    table::put_store(cnv, seq, store);
+    table::put_store(cnv, seq, effect.store);
     effect.outcome
 }
 
@@ -30,6 +29,7 @@ pub fn call(m: Mount, cnv: &mut [u64], seq: &mut [u64], kind: u64, number: u32, 
 
 // The command that a file has outstanding was done well, or it failed: then the bytes are its zone's record, and `given` says that the record
 // states a capacity. For those that are told by a flag which of both it is.
+// It, `complete` and `fail` stay three: public entry points, which docs/TRACE.md names, over this one body.
 pub fn end_command(
     m: Mount,
     cnv: &mut [u64],

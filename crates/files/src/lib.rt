@@ -12,6 +12,7 @@ use types::Row;
 use zones::Zone;
 
 // A run of conventional zones that may go on, or none. Start and capacity in sectors.
+// The flag stays beside the numbers: words of C without a run hold any, and `walk_from` of the specs puts them back.
 #[derive(Clone, Copy)]
 pub struct Run {
     pub active: bool,
@@ -43,6 +44,7 @@ fn file_row(healthy: bool, start: u64, capacity: u64, size: u64) -> Row
 }
 
 // The row of a sequential zone. Only a healthy one says how much of it is written.
+// It stays apart from `file_row`: only a healthy zone's size may be computed.
 pub fn seq_row(z: Zone) -> Row
     requires { Bounded z × (sequential z ≡ true) }
     ensures { result ≡ seq_row z }
@@ -68,31 +70,27 @@ fn no_run() -> Run
 }
 
 // The run after a zone.
+#[tactic(auto, unfolding(crate::specs::Walk::next_run))]
 fn next_run(aggregate: bool, run: Run, z: Zone) -> Run
     requires { (z.capacity ≤ 2 ^ 40) × (run.capacity ≤ 2 ^ 50) }
     ensures { result ≡ next_run aggregate run z }
 {
     let fine = zones::is_healthy(z);
-    let conventional = zones::is_conventional(z);
-    let longer = aggregate & run.active;
-    if conventional {
-        if longer {
-            Run {
-                active: true,
-                start: run.start,
-                capacity: run.capacity + z.capacity,
-                healthy: run.healthy & fine,
-            }
-        } else {
-            Run {
-                active: true,
-                start: z.start,
-                capacity: z.capacity,
-                healthy: fine,
-            }
+    if !zones::is_conventional(z) {
+        no_run()
+    } else if aggregate & run.active {
+        Run {
+            capacity: run.capacity + z.capacity,
+            healthy: run.healthy & fine,
+            ..run
         }
     } else {
-        no_run()
+        Run {
+            active: true,
+            start: z.start,
+            capacity: z.capacity,
+            healthy: fine,
+        }
     }
 }
 
@@ -100,8 +98,7 @@ fn next_run(aggregate: bool, run: Run, z: Zone) -> Run
 pub fn run_ends(aggregate: bool, run: Run, z: Zone) -> bool
     ensures { result ≡ run_ends aggregate run z }
 {
-    let conventional = zones::is_conventional(z);
-    run.active & !(aggregate & conventional)
+    run.active & !(aggregate & zones::is_conventional(z))
 }
 
 // The row of a finished run.
@@ -117,11 +114,10 @@ pub fn row_of_run(run: Run) -> Row
 pub fn begin() -> Walk
     ensures { result ≡ begun }
 {
-    let run = no_run();
     Walk {
         number: 0,
         expected: 0,
-        run,
+        run: no_run(),
         cnvs: 0,
         seqs: 0,
     }
@@ -139,11 +135,10 @@ fn run_after(aggregate: bool, walk: Walk, z: Zone) -> Run
     requires { BoundedWalk walk × Bounded z }
     ensures { result ≡ run_after aggregate walk z }
 {
-    let run = walk.run;
     if at_zone_0(walk) {
         no_run()
     } else {
-        next_run(aggregate, run, z)
+        next_run(aggregate, walk.run, z)
     }
 }
 
@@ -151,30 +146,23 @@ fn run_after(aggregate: bool, walk: Walk, z: Zone) -> Run
 pub fn is_seq_file(walk: Walk, z: Zone) -> bool
     ensures { result ≡ is_seq_file walk z }
 {
-    let first = at_zone_0(walk);
-    let sequential = zones::is_sequential(z);
-    !first & sequential
+    !at_zone_0(walk) & zones::is_sequential(z)
 }
 
 // The walk after a zone.
+#[tactic(auto, unfolding(crate::specs::Walk::stepped), using(crate::proofs::Walks::flag_small))]
 pub fn step(aggregate: bool, walk: Walk, z: Zone) -> Walk
     requires { BoundedWalk walk × Bounded z }
     ensures { result ≡ stepped aggregate walk z }
 {
-    let before = walk.run;
-    let cnv = types::codes::flag_code(run_ends(aggregate, before, z));
+    let cnv = types::codes::flag_code(run_ends(aggregate, walk.run, z));
     let seq = types::codes::flag_code(is_seq_file(walk, z));
-    let run = run_after(aggregate, walk, z);
-    let number = walk.number + 1;
-    let expected = z.start + z.length;
-    let cnvs = walk.cnvs + cnv as usize;
-    let seqs = walk.seqs + seq as usize;
     Walk {
-        number,
-        expected,
-        run,
-        cnvs,
-        seqs,
+        number: walk.number + 1,
+        expected: z.start + z.length,
+        run: run_after(aggregate, walk, z),
+        cnvs: walk.cnvs + cnv as usize,
+        seqs: walk.seqs + seq as usize,
     }
 }
 
@@ -183,7 +171,6 @@ pub fn cnv_files(walk: Walk) -> usize
     requires { BoundedWalk walk }
     ensures { result ≡ cnv_files walk }
 {
-    let run = walk.run;
-    let last = types::codes::flag_code(run.active);
+    let last = types::codes::flag_code(walk.run.active);
     walk.cnvs + last as usize
 }

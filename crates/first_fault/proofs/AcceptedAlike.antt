@@ -1,5 +1,6 @@
 -- A report that the whole mount accepts gives the same in pieces, wherever it is cut.
 -- Assumes nothing.
+use Rattle.std.specs.Prelude.{Ok}
 use Prim.Native.Nat.{ℕ}
 use mathlib.Core.Path.{◌≡◌, refl, sym, ap, ◌∙◌}
 use mathlib.Core.Bool.{false, not}
@@ -10,11 +11,9 @@ use lib.ListN.{length}
 use Rattle.types.specs.Blocks.{block_sectors}
 use Rattle.types.specs.Numbers.{mount_number}
 use Rattle.types.specs.declared.Refusal.TheVariants.{BadBlock, BadOptions}
-use Rattle.types.specs.declared.Verdict.{Verdict}
-use Rattle.types.specs.declared.Verdict.TheVariants as verdict
+use Rattle.types.specs.Answers.{Verdict}
 use Rattle.types.specs.declared.Row.{Row}
-use Rattle.types.specs.declared.MountAnswer.{MountAnswer}
-use Rattle.types.specs.declared.MountAnswer.TheVariants.{Mounted}
+use Rattle.types.specs.Answers.{MountAnswer}
 use Rattle.types.proofs.VerdictLaws.{check_passes, then_passed, then_passes}
 use Rattle.table.specs.Rows.{rows_lent}
 use Rattle.account.specs.Account.{is_active}
@@ -67,7 +66,7 @@ module _ (block : ℕ) (superblock options : List ℕ) (open_limit active_limit 
 
   module _ (t : Accepts block superblock options report open_limit active_limit cnv seq) where
     -- begin passes
-    opened : opening block superblock options open_limit active_limit cnv seq ≡ verdict.Passed
+    opened : opening block superblock options open_limit active_limit cnv seq ≡ Ok tt
     unfolding opening_check
     opened = check_passes BadBlock (ap not t.unit) (then_passes t.super (check_passes BadOptions (ap bad_options t.options) refl))
 
@@ -82,7 +81,7 @@ module _ (block : ℕ) (superblock options : List ℕ) (open_limit active_limit 
     come : Arrived how report cnv seq here
     come = bytes_come how report cnv seq
 
-    ended_well : end_check taken ≡ verdict.Passed
+    ended_well : end_check taken ≡ Ok tt
     ended_well = come.ends ∙ whole_given _ _ _ _ report whole
 
     all : AllTaken how (record { intake = taken; cnv = here.cnv; seq = here.seq }) (zones_of report)
@@ -114,15 +113,15 @@ module _ (block : ℕ) (superblock options : List ℕ) (open_limit active_limit 
     unfolding answer_for
     answered =
         ap (λ (v : Verdict). answer_for v (cnv_files taken.walk) taken.walk.seqs) ended_well
-        ∙ ap (λ (n : ℕ). Mounted n taken.walk.seqs) cnv_number
-        ∙ ap (Mounted (length cnvs)) seq_number
+        ∙ ap (λ (n : ℕ). Ok (n, taken.walk.seqs)) cnv_number
+        ∙ ap (λ (n : ℕ). Ok (length cnvs, n)) seq_number
 
     mount_same : end_mount (end_answer taken) (found block superblock options open_limit active_limit cnv seq) taken ≡ left.mount
     mount_same =
         ap (λ (a : MountAnswer). end_mount a (found block superblock options open_limit active_limit cnv seq) taken) answered
         ∙ ap (with_files (found block superblock options open_limit active_limit cnv seq) (length cnvs) (length seqs)) active_same
 
-  pub accepted_alike : (c s : ℕ) → (mount_outcome block superblock options (joined bs) open_limit active_limit cnv seq).answer ≡ Mounted c s
+  pub accepted_alike : (c s : ℕ) → (mount_outcome block superblock options (joined bs) open_limit active_limit cnv seq).answer ≡ Ok (c, s)
       → let begin = begin_outcome block superblock options open_limit active_limit in
       let pieces = in_pieces (started begin cnv seq) bs in
       AcceptedAlike (mount_outcome block superblock options (joined bs) open_limit active_limit cnv seq) begin pieces (end_outcome pieces.pieces) c s

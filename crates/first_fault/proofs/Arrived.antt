@@ -1,5 +1,6 @@
 -- What bytes come to: before a header, after a bad one, and after a good one by what its whole zones come to.
 -- Assumes nothing.
+use Rattle.std.specs.Prelude.{Ok}
 use Prim.Native.Nat.{ℕ, ◌≤◌, ◌<◌}
 use native.Mathlib.Omega.{arith}
 use mathlib.Core.Path.{◌≡◌, refl, sym, ap, ◌∙◌, subst}
@@ -10,7 +11,6 @@ use lib.Dec.{leb, ltb}
 use lib.ListN.{length, drop}
 use Rattle.types.specs.Verdicts.{refuse, and_then}
 use Rattle.types.specs.declared.Refusal.TheVariants.{BadReport}
-use Rattle.types.specs.declared.Verdict.TheVariants.{Passed}
 use Rattle.table.specs.Rows.{rows_lent}
 use Rattle.zones.specs.declared.Zone.{Zone}
 use Rattle.files.specs.Files.{seq_rows, runs, cnv_rows}
@@ -53,7 +53,7 @@ module _ (r : Rule) (b cnv seq : List ℕ) where
     pub ends : end_check s.received.intake ≡ end_fault r.unit r.aggregate cnv_room seq_room b
     pub cnvs : s.cnv ≡ fill cnv (finished_cnv r.unit r.aggregate cnv_room seq_room b)
     pub seqs : s.seq ≡ fill seq (finished_seq r.unit r.aggregate cnv_room seq_room b)
-    pub whole : end_check s.received.intake ≡ Passed → AllTaken r (taking_of s) (zones_of b)
+    pub whole : end_check s.received.intake ≡ Ok tt → AllTaken r (taking_of s) (zones_of b)
 
   module _ (none : passed_zones r.unit r.aggregate cnv_room seq_room b ≡ []) where
     no_cnv : cnv ≡ fill cnv (finished_cnv r.unit r.aggregate cnv_room seq_room b)

@@ -1,13 +1,13 @@
 -- A mount in pieces that begin has not refused: its pieces are their bytes taken one after the other, and what the end makes of them.
 -- Assumes nothing.
+use Rattle.std.specs.Prelude.{Ok}
 use Prim.Native.Nat.{ℕ}
 use mathlib.Core.Path.{◌≡◌, refl, ap, ◌∙◌}
 use mathlib.Core.Bool.{true}
 use mathlib.Core.List.{List}
-use Rattle.types.specs.declared.Verdict.{Verdict}
-use Rattle.types.specs.declared.Verdict.TheVariants as verdict
+use Rattle.types.specs.Answers.{Verdict}
 use Rattle.types.specs.declared.Mount.{Mount}
-use Rattle.superblock.specs.SuperBlock.{super_read}
+use Rattle.superblock.specs.SuperBlock.{super_read, found_in, fields_in}
 use Rattle.options.specs.Options.{options_of}
 use Rattle.mount.specs.Mount.{aggregated, opening_check}
 use Rattle.mount.proofs.Mounted.{opening_block}
@@ -23,10 +23,10 @@ use Rattle.first_fault.proofs.Joined.{still_possible, pieces_join}
 module _ (block : ℕ) (superblock options : List ℕ) (open_limit active_limit : ℕ) (cnv seq : List ℕ) where
   -- what begin finds
   abbrev pub opening : Verdict
-  opening = opening_check block (super_read superblock).check (options_of options)
+  opening = opening_check block (found_in (super_read superblock)) (options_of options)
 
   abbrev pub found : Mount
-  found = found_mount block (super_read superblock).fields (options_of options) open_limit active_limit
+  found = found_mount block (fields_in (super_read superblock)) (options_of options) open_limit active_limit
 
   abbrev pub held : Pieces
   held = begun_with found (aggregated superblock)
@@ -39,15 +39,15 @@ module _ (block : ℕ) (superblock options : List ℕ) (open_limit active_limit 
   after b = fed rule (untaken cnv seq) b
 
   abbrev pub begin : Fed
-  begin = record { answer = verdict.Passed; pieces = held; cnv = cnv; seq = seq }
+  begin = record { answer = Ok tt; pieces = held; cnv = cnv; seq = seq }
 
-  module _ (passed : opening ≡ verdict.Passed) where
+  module _ (passed : opening ≡ Ok tt) where
     begun : started (begin_outcome block superblock options open_limit active_limit) cnv seq ≡ begin
     unfolding begin_outcome begun_as
     begun = ap (λ (v : Verdict). record { answer = v; pieces = begun_as v found (aggregated superblock); cnv = cnv; seq = seq }) passed
 
     possible : possible_pieces held ≡ true
-    possible = possible_given held (opening_block block (super_read superblock).check (options_of options) passed) nothing_received_lem
+    possible = possible_given held (opening_block block (found_in (super_read superblock)) (options_of options) passed) nothing_received_lem
 
     pub pieces_fed : (bs : List (List ℕ)) → in_pieces (started (begin_outcome block superblock options open_limit active_limit) cnv seq) bs ≡ fed_to held (after (joined bs))
     pieces_fed bs = ap (λ (f : Fed). in_pieces f bs) begun ∙ pieces_join begin bs possible refl

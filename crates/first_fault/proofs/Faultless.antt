@@ -1,5 +1,6 @@
 -- Bytes have no fault in byte order, and none at the end, exactly if the whole report's checks find none.
 -- Assumes nothing.
+use Rattle.std.specs.Prelude.{Ok}
 use Prim.Native.Nat.{ℕ, ◌+◌, ◌-◌, ◌/◌, min}
 use native.Mathlib.Omega.{arith}
 use mathlib.Core.Path.{◌≡◌, refl, sym, ap, ◌∙◌, subst}
@@ -10,8 +11,7 @@ use lib.Dec.{leb, ltb, eqb}
 use lib.ListN.{length}
 use lib.Seq.{append_snoc}
 use Rattle.types.specs.declared.Refusal.TheVariants.{BadReport, BadZone, TooFewRows}
-use Rattle.types.specs.declared.Verdict.{Verdict}
-use Rattle.types.specs.declared.Verdict.TheVariants.{Passed}
+use Rattle.types.specs.Answers.{Verdict}
 use Rattle.types.proofs.Tests.{both, and_left, and_right, or_left, or_right}
 use Rattle.types.proofs.VerdictLaws.{check_passed, check_passes, then_passed, then_passes}
 use Rattle.zones.specs.declared.Zone.{Zone}
@@ -33,14 +33,14 @@ end_next e (y ∷ zs) z = end_next (y.start + y.length) zs z
 module _ (unit : ℕ) (aggregate : Bool) (cnv_room seq_room : ℕ) where
   -- ZONES
 
-  after-told : (before : List Zone) (z : Zone) → fault_after unit aggregate cnv_room seq_room before z ≡ Passed
+  after-told : (before : List Zone) (z : Zone) → fault_after unit aggregate cnv_room seq_room before z ≡ Ok tt
       → (good_zone unit (end_of 0 before) z ≡ true) × (out_of_rows unit aggregate cnv_room seq_room (before ++ (z ∷ [])) ≡ false)
   unfolding fault_after
   after-told before z h =
       let good = check_passed (BadZone (length before) (zone_fault unit (end_of 0 before) z)) h in
       (not-false _ good.0, (check_passed TooFewRows good.1).0)
 
-  zones_told : (before zs : List Zone) → fault_from unit aggregate cnv_room seq_room before zs ≡ Passed → out_of_rows unit aggregate cnv_room seq_room before ≡ false
+  zones_told : (before zs : List Zone) → fault_from unit aggregate cnv_room seq_room before zs ≡ Ok tt → out_of_rows unit aggregate cnv_room seq_room before ≡ false
       → AllGood unit (end_of 0 before) zs × (out_of_rows unit aggregate cnv_room seq_room (before ++ zs) ≡ false)
   unfolding fault_from AllGood
   zones_told before [] h fits = (tt, ap (out_of_rows unit aggregate cnv_room seq_room) (append-nil before) ∙ fits)
@@ -53,7 +53,7 @@ module _ (unit : ℕ) (aggregate : Bool) (cnv_room seq_room : ℕ) where
       )
 
   zones_given : (before zs : List Zone) → AllGood unit (end_of 0 before) zs → out_of_rows unit aggregate cnv_room seq_room (before ++ zs) ≡ false
-      → fault_from unit aggregate cnv_room seq_room before zs ≡ Passed
+      → fault_from unit aggregate cnv_room seq_room before zs ≡ Ok tt
   unfolding fault_from AllGood
   zones_given before [] good fits = refl
   zones_given before (z ∷ zs) good fits =
@@ -62,7 +62,7 @@ module _ (unit : ℕ) (aggregate : Bool) (cnv_room seq_room : ℕ) where
       then_passes here (zones_given (before ++ (z ∷ [])) zs (subst (λ (e : ℕ). AllGood unit e zs) (sym (end_next 0 before z)) good.1) all)
 
   -- they all pass then
-  pub zones_passed : (before zs : List Zone) → fault_from unit aggregate cnv_room seq_room before zs ≡ Passed
+  pub zones_passed : (before zs : List Zone) → fault_from unit aggregate cnv_room seq_room before zs ≡ Ok tt
       → passed_from unit aggregate cnv_room seq_room before zs ≡ before ++ zs
   unfolding fault_from passed_from
   zones_passed before [] h = sym (append-nil before)
@@ -84,9 +84,9 @@ module _ (unit : ℕ) (aggregate : Bool) (cnv_room seq_room : ℕ) where
   -- no fault, neither so far nor at the end: the header is good and so long, and its zones have none
   pub record Whole (b : List ℕ) : Type 0 where
     pub header : good_header b ≡ true
-    pub zones : fault_from unit aggregate cnv_room seq_room [] (zones_of b) ≡ Passed
+    pub zones : fault_from unit aggregate cnv_room seq_room [] (zones_of b) ≡ Ok tt
 
-  pub whole_told : (b : List ℕ) → end_fault unit aggregate cnv_room seq_room b ≡ Passed → Whole b
+  pub whole_told : (b : List ℕ) → end_fault unit aggregate cnv_room seq_room b ≡ Ok tt → Whole b
   unfolding end_fault first_fault good_header
   whole_told b h =
       let parts = then_passed _ h in
@@ -103,7 +103,7 @@ module _ (unit : ℕ) (aggregate : Bool) (cnv_room seq_room : ℕ) where
         zones = ap (fault_from unit aggregate cnv_room seq_room []) (sym (whole_all b exact)) ∙ second.0;
       }
 
-  pub whole_given : (b : List ℕ) → Whole b → end_fault unit aggregate cnv_room seq_room b ≡ Passed
+  pub whole_given : (b : List ℕ) → Whole b → end_fault unit aggregate cnv_room seq_room b ≡ Ok tt
   unfolding end_fault first_fault good_header
   whole_given b w =
       let there : leb header_bytes (length b) ≡ true = and_left (leb header_bytes (length b)) _ w.header in

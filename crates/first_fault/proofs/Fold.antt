@@ -1,12 +1,12 @@
 -- Zones taken one after the other, none after a refusal; and what they come to.
 -- Assumes nothing.
+use Rattle.std.specs.Prelude.{Ok, Err}
 use Prim.Native.Nat.{ℕ}
 use mathlib.Core.Path.{◌≡◌}
 use mathlib.Core.List.{List, [], ◌∷◌}
 use mathlib.Core.Bool.{Bool}
 use lib.ListN.{length, drop}
-use Rattle.types.specs.declared.Verdict.{Verdict}
-use Rattle.types.specs.declared.Verdict.TheVariants.{Passed, Refused}
+use Rattle.types.specs.Answers.{Verdict}
 use Rattle.table.specs.Rows.{rows_lent}
 use Rattle.account.specs.Account.{is_active}
 use Rattle.account.specs.Counts.{count_in}
@@ -19,8 +19,8 @@ use Rattle.intake.specs.Steps.{Taking, zone_taken}
 use Rattle.first_fault.specs.FirstFault.{fault_from, passed_from, finished_runs}
 
 abbrev pub zone_after : Verdict → Rule → Taking → Zone → Taking
-zone_after Passed r s z = zone_taken r s z
-zone_after (Refused x) r s z = s
+zone_after (Ok tt) r s z = zone_taken r s z
+zone_after (Err x) r s z = s
 
 unfoldable pub zones_taken : Rule → Taking → List Zone → Taking
 zones_taken r s [] = s
@@ -29,7 +29,7 @@ zones_taken r s (z ∷ zs) = zones_taken r (zone_after s.intake.check r s z) zs
 -- after a good header
 abbrev pub after_header : ℕ → Bool → List ℕ → List ℕ → Taking
 after_header count given cnv seq =
-    record { intake = record { check = Passed; count = count; given = given; walk = begun; active = 0 }; cnv = cnv; seq = seq }
+    record { intake = record { check = Ok tt; count = count; given = given; walk = begun; active = 0 }; cnv = cnv; seq = seq }
 
 -- what no fault leaves: the walk over all of them, and the active files counted
 pub record AllTaken (r : Rule) (s : Taking) (zs : List Zone) : Type 0 where
@@ -45,4 +45,4 @@ pub record Came (r : Rule) (count : ℕ) (given : Bool) (cnv seq : List ℕ) (zs
   pub seqs : s.seq ≡ fill seq (seq_rows (drop 1 (passed_from r.unit r.aggregate (rows_lent (length cnv)) (rows_lent (length seq)) [] zs)))
   pub counts : s.intake.count ≡ count
   pub gives : s.intake.given ≡ given
-  pub whole : s.intake.check ≡ Passed → AllTaken r s zs
+  pub whole : s.intake.check ≡ Ok tt → AllTaken r s zs

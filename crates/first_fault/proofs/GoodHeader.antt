@@ -1,5 +1,6 @@
 -- What the bytes of a good header and what follows it come to, by what their whole zones come to.
 -- Assumes nothing.
+use Rattle.std.specs.Prelude.{Ok}
 use Prim.Native.Nat.{ℕ, ◌+◌, ◌-◌, ◌*◌, ◌/◌, ◌≤◌, min}
 use native.Mathlib.Omega.{arith}
 use native.Mathlib.Nat.{zero-add}
@@ -11,8 +12,7 @@ use lib.Dec.{leb, ltb}
 use lib.ListN.{length, drop}
 use Rattle.types.specs.Verdicts.{refuse, and_then}
 use Rattle.types.specs.declared.Refusal.TheVariants.{BadReport}
-use Rattle.types.specs.declared.Verdict.{Verdict}
-use Rattle.types.specs.declared.Verdict.TheVariants.{Passed}
+use Rattle.types.specs.Answers.{Verdict}
 use Rattle.types.proofs.Tests.{cases, and_left, and_right}
 use Rattle.types.proofs.VerdictLaws.{check_passed, then_passed}
 use Rattle.table.specs.Rows.{rows_lent}
@@ -81,24 +81,24 @@ module _ (r : Rule) (b cnv seq : List ℕ) (h : header_bytes ≤ length b) (good
     good_check_lem =
         good_rest.check ∙ ap (λ (v : Verdict). and_then v (too_long b)) came.check ∙ sym (rw (le-leb header_bytes (length b) h, good))
 
-    good_complete : here.received.intake.check ≡ Passed → (taken.intake.check ≡ Passed) × (complete here.received.intake ≡ leb (zone_count b) there)
+    good_complete : here.received.intake.check ≡ Ok tt → (taken.intake.check ≡ Ok tt) × (complete here.received.intake ≡ leb (zone_count b) there)
     good_complete passed =
-        let first : taken.intake.check ≡ Passed = (then_passed _ (sym good_rest.check ∙ passed)).0 in
+        let first : taken.intake.check ≡ (Ok tt) = (then_passed _ (sym good_rest.check ∙ passed)).0 in
         (first, ap complete (good_rest.same passed) ∙ complete_by r b counted taken there good_fed.1 (omega arith) first)
 
     good_ends : end_check here.received.intake ≡ end_fault r.unit r.aggregate (rows_lent (length cnv)) (rows_lent (length seq)) b
     unfolding end_check end_fault and_then
     good_ends =
-        let wanting : Verdict = refuse (not (complete here.received.intake)) BadReport Passed in
-        let short : Verdict = refuse (ltb (length b) header_bytes || ltb (length b) (report_bytes b)) BadReport Passed in
+        let wanting : Verdict = refuse (not (complete here.received.intake)) BadReport (Ok tt) in
+        let short : Verdict = refuse (ltb (length b) header_bytes || ltb (length b) (report_bytes b)) BadReport (Ok tt) in
         verdicts here.received.intake.check
         (λ passed.
-        ap (λ (t : Bool). and_then here.received.intake.check (refuse t BadReport Passed)) (ap not (good_complete passed).1 ∙ sym missing)
+        ap (λ (t : Bool). and_then here.received.intake.check (refuse t BadReport (Ok tt))) (ap not (good_complete passed).1 ∙ sym missing)
         ∙ ap (λ (v : Verdict). and_then v short) good_check_lem)
         (λ x refused. ap (λ (v : Verdict). and_then v wanting) refused ∙ sym (ap (λ (v : Verdict). and_then v short) (sym good_check_lem ∙ refused)))
 
     -- where nothing is missing at the end, all zones were taken
-    good_whole : end_check here.received.intake ≡ Passed → AllTaken r (taking_of here) (zones_of b)
+    good_whole : end_check here.received.intake ≡ Ok tt → AllTaken r (taking_of here) (zones_of b)
     unfolding end_check whole_zones zones_of
     good_whole ended =
         let parts = then_passed _ ended in

@@ -1,5 +1,6 @@
 -- A report that the whole mount refuses is refused in pieces too.
 -- Assumes nothing.
+use Rattle.std.specs.Prelude.{Ok, Err}
 use Prim.Native.Nat.{ℕ}
 use native.Mathlib.Omega.{arith}
 use mathlib.Core.Path.{◌≡◌, refl, sym, ap, ◌∙◌}
@@ -9,12 +10,10 @@ use Rattle.types.specs.Blocks.{block_sectors}
 use Rattle.types.specs.Verdicts.{and_then}
 use Rattle.types.specs.declared.Refusal.{Refusal}
 use Rattle.types.specs.declared.Refusal.TheVariants.{TooFewRows}
-use Rattle.types.specs.declared.Verdict.{Verdict}
-use Rattle.types.specs.declared.Verdict.TheVariants as verdict
-use Rattle.types.specs.declared.MountAnswer.TheVariants.{Refused, Mounted}
+use Rattle.types.specs.Answers.{Verdict}
 use Rattle.types.proofs.VerdictLaws.{check_passes, then_passes}
 use Rattle.table.specs.Rows.{rows_lent}
-use Rattle.superblock.specs.SuperBlock.{super_read}
+use Rattle.superblock.specs.SuperBlock.{super_read, found_in}
 use Rattle.options.specs.Options.{options_of}
 use Rattle.report.proofs.Laws.{report_good}
 use Rattle.mount.specs.Mount.{file_zones, aggregated, files_check, mount_check, answer_for, mount_answer_of, mount_answer, mount_outcome}
@@ -27,38 +26,38 @@ use Rattle.first_fault.proofs.Faultless.{Whole, whole_told, faultless_told}
 use Rattle.first_fault.proofs.Begun.{opening, rule, after, pieces_fed, ended}
 
 -- an answer of 0 comes after checks that found nothing
-passed_answer : (v : Verdict) (x y c s : ℕ) → answer_for v x y ≡ Mounted c s → v ≡ verdict.Passed
+passed_answer : (v : Verdict) (x y c s : ℕ) → answer_for v x y ≡ Ok (c, s) → v ≡ Ok tt
 unfolding answer_for
-passed_answer verdict.Passed x y c s h = refl
-passed_answer (verdict.Refused r) x y c s h = let z : ◌≡◌ {A = ℕ} 0 1 = cc in absurd (omega arith)
+passed_answer (Ok tt) x y c s h = refl
+passed_answer (Err r) x y c s h = let z : ◌≡◌ {A = ℕ} 0 1 = cc in absurd (omega arith)
 
 -- a refusal comes after checks that found it
-pub refused_answer : (v : Verdict) (x y : ℕ) (r : Refusal) → answer_for v x y ≡ Refused r → v ≡ verdict.Refused r
+pub refused_answer : (v : Verdict) (x y : ℕ) (r : Refusal) → answer_for v x y ≡ Err r → v ≡ Err r
 unfolding answer_for
-refused_answer verdict.Passed x y r h = let z : ◌≡◌ {A = ℕ} 0 1 = cc in absurd (omega arith)
-refused_answer (verdict.Refused q) x y r h = cc
+refused_answer (Ok tt) x y r h = let z : ◌≡◌ {A = ℕ} 0 1 = cc in absurd (omega arith)
+refused_answer (Err q) x y r h = cc
 
 -- and what the first of two finds is found
-found_first : (v w : Verdict) (x y : Refusal) → v ≡ verdict.Refused y → and_then v w ≡ verdict.Refused x → y ≡ x
+found_first : (v w : Verdict) (x y : Refusal) → v ≡ Err y → and_then v w ≡ Err x → y ≡ x
 unfolding and_then
-found_first verdict.Passed w x y e h = not_both e refl
-found_first (verdict.Refused q) w x y e h = cc
+found_first (Ok tt) w x y e h = not_both e refl
+found_first (Err q) w x y e h = cc
 
 module _ (block : ℕ) (superblock options : List ℕ) (open_limit active_limit : ℕ) (cnv seq : List ℕ) (bs : List (List ℕ)) (x : Refusal)
-    (refused : (mount_outcome block superblock options (joined bs) open_limit active_limit cnv seq).answer ≡ Refused x) where
+    (refused : (mount_outcome block superblock options (joined bs) open_limit active_limit cnv seq).answer ≡ Err x) where
   -- its checks found x
-  checked : mount_check block (super_read superblock).check (options_of options) (aggregated superblock) (joined bs) (rows_lent (length cnv)) (rows_lent (length seq))
-      ≡ verdict.Refused x
+  checked : mount_check block (found_in (super_read superblock)) (options_of options) (aggregated superblock) (joined bs) (rows_lent (length cnv)) (rows_lent (length seq))
+      ≡ Err x
   unfolding mount_outcome mount_answer mount_answer_of
   checked = refused_answer _ _ _ x refused
 
   -- what begin refuses is refused alike
-  same_refusal : (y : Refusal) → (begin_outcome block superblock options open_limit active_limit).answer ≡ verdict.Refused y → y ≡ x
+  same_refusal : (y : Refusal) → (begin_outcome block superblock options open_limit active_limit).answer ≡ Err y → y ≡ x
   unfolding begin_outcome mount_check
   same_refusal y e = found_first _ _ x y e checked
 
   -- where begin passes, a report without a fault would have been accepted
-  no_whole : opening block superblock options open_limit active_limit cnv seq ≡ verdict.Passed
+  no_whole : opening block superblock options open_limit active_limit cnv seq ≡ Ok tt
       → Whole (block_sectors block) (aggregated superblock) (rows_lent (length cnv)) (rows_lent (length seq)) (joined bs) → ⊥
   unfolding mount_check files_check file_zones
   no_whole passed w =
@@ -66,8 +65,8 @@ module _ (block : ℕ) (superblock options : List ℕ) (open_limit active_limit 
       not_both checked (then_passes passed (then_passes (report_good (block_sectors block) (joined bs) f.0) (check_passes TooFewRows f.1 refl)))
 
   -- so the end doesn't answer 0
-  not_ended : opening block superblock options open_limit active_limit cnv seq ≡ verdict.Passed → (c s : ℕ)
-      → end_answer (after block superblock options open_limit active_limit cnv seq (joined bs)).received.intake ≡ Mounted c s → ⊥
+  not_ended : opening block superblock options open_limit active_limit cnv seq ≡ Ok tt → (c s : ℕ)
+      → end_answer (after block superblock options open_limit active_limit cnv seq (joined bs)).received.intake ≡ Ok (c, s) → ⊥
   not_ended passed c s e =
       no_whole passed
       (whole_told _ _ _ _ (joined bs)

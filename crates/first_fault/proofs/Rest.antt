@@ -1,5 +1,6 @@
 -- What the bytes do that follow the last whole zone: they begin one that isn't there yet, or are too many, or come after a refusal.
 -- Assumes nothing.
+use Rattle.std.specs.Prelude.{Ok}
 use Prim.Native.Nat.{ℕ, ◌+◌, ◌*◌, ◌≤◌, ◌<◌}
 use native.Mathlib.Omega.{arith}
 use mathlib.Core.Path.{◌≡◌, refl, sym, ap, ◌∙◌, subst}
@@ -10,8 +11,7 @@ use lib.Dec.{eqb, leb, ltb}
 use lib.ListN.{length, drop, length-drop, drop_of_length-le}
 use Rattle.types.specs.Verdicts.{refuse, and_then}
 use Rattle.types.specs.declared.Refusal.TheVariants.{BadReport}
-use Rattle.types.specs.declared.Verdict.{Verdict}
-use Rattle.types.specs.declared.Verdict.TheVariants.{Passed}
+use Rattle.types.specs.Answers.{Verdict}
 use Rattle.types.proofs.Tests.{cases}
 use Rattle.zones.specs.Zone.{zone_bytes}
 use Rattle.report.specs.Report.{header_bytes, zone_count}
@@ -25,17 +25,17 @@ use Rattle.first_fault.proofs.Zonewise.{verdicts, not_both, Before}
 
 -- an extra byte is 28
 abbrev pub too_long : List ℕ → Verdict
-too_long b = refuse (ltb (report_bytes b) (length b)) BadReport Passed
+too_long b = refuse (ltb (report_bytes b) (length b)) BadReport (Ok tt)
 
 -- what they lead to from t, with which the last whole zone was taken
 pub record Followed (b : List ℕ) (t : Taking) (s : Receiving) : Type 0 where
   pub check : s.received.intake.check ≡ and_then t.intake.check (too_long b)
   pub cnv : s.cnv ≡ t.cnv
   pub seq : s.seq ≡ t.seq
-  pub same : s.received.intake.check ≡ Passed → s.received.intake ≡ t.intake
+  pub same : s.received.intake.check ≡ Ok tt → s.received.intake ≡ t.intake
 
 -- with nothing wrong, nothing more was taken
-pub followed_same : (b : List ℕ) (t : Taking) (s : Receiving) → Followed b t s → s.received.intake.check ≡ Passed → taking_of s ≡ t
+pub followed_same : (b : List ℕ) (t : Taking) (s : Receiving) → Followed b t s → s.received.intake.check ≡ Ok tt → taking_of s ≡ t
 followed_same b t s f passed =
     ap (λ (i : Intake). record { intake = i; cnv = s.cnv; seq = s.seq }) (f.same passed)
     ∙ ap (λ (l : List ℕ). record { intake = t.intake; cnv = l; seq = s.seq }) f.cnv
@@ -43,7 +43,7 @@ followed_same b t s f passed =
 
 module _ (r : Rule) (b : List ℕ) (some : 1 ≤ zone_count b) (t : Taking) (n : ℕ) (so : Before b t n) (inside : n ≤ zone_count b) where
   -- all zones are there exactly if there are so many of them
-  pub complete_by : t.intake.check ≡ Passed → complete t.intake ≡ leb (zone_count b) n
+  pub complete_by : t.intake.check ≡ Ok tt → complete t.intake ≡ leb (zone_count b) n
   complete_by passed =
       let one : leb 1 t.intake.count ≡ true = le-leb 1 t.intake.count (omega (arith, so.count)) in
       rw (one, so.count, so.number passed)
@@ -52,7 +52,7 @@ module _ (r : Rule) (b : List ℕ) (some : 1 ≤ zone_count b) (t : Taking) (n :
   rest = drop (header_bytes + zone_bytes * n) b
 
   -- no zone more is there, be it that none is counted or that its bytes are missing
-  module _ (passed : t.intake.check ≡ Passed) (fits : header_bytes + zone_bytes * n ≤ length b) (last : n < zone_count b → length b < header_bytes + zone_bytes * (n + 1)) where
+  module _ (passed : t.intake.check ≡ Ok tt) (fits : header_bytes + zone_bytes * n ≤ length b) (last : n < zone_count b → length b < header_bytes + zone_bytes * (n + 1)) where
     -- nothing is wrong, and nothing is taken
     nothing_more : (part : List ℕ) (held : ℕ) → ltb (report_bytes b) (length b) ≡ false
         → Followed b t (record { received = record { intake = t.intake; part = part; held = held }; cnv = t.cnv; seq = t.seq })

@@ -1,5 +1,6 @@
 -- What has been taken once zones have passed, all of them: the walk over them, and the rows stored that are finished. And what a zone makes of it.
 -- Assumes nothing.
+use Rattle.std.specs.Prelude.{Ok, Err}
 use mathlib.Core.Path.{◌≡◌, refl, ap, ◌∙◌, sym}
 use mathlib.Core.List.{List, [], ◌∷◌, ◌++◌}
 use mathlib.Core.Bool.{Bool, true, false}
@@ -10,8 +11,7 @@ use lib.ListN.{length, drop}
 use lib.Dec.{ltb}
 use Rattle.types.specs.Codes.{flag_code}
 use Rattle.types.specs.declared.Refusal.TheVariants.{BadZone, TooFewRows}
-use Rattle.types.specs.declared.Verdict.{Verdict}
-use Rattle.types.specs.declared.Verdict.TheVariants.{Passed, Refused}
+use Rattle.types.specs.Answers.{Verdict}
 use Rattle.types.proofs.Tests.{or_left, or_right}
 use Rattle.table.specs.Rows.{rows_lent}
 use Rattle.account.specs.Account.{is_active}
@@ -45,21 +45,21 @@ taking_same count given p q h k l = cc
 
 module _ (r : Rule) (count : ℕ) (given : Bool) (w : Walk) (active : ℕ) (cnv seq : List ℕ) (z : Zone) where
   zone_bad : good_zone r.unit w.expected z ≡ false
-      → zone_taken r (taking Passed count given w active cnv seq) z
-      ≡ taking (Refused (BadZone w.number (zone_fault r.unit w.expected z))) count given w active cnv seq
+      → zone_taken r (taking (Ok tt) count given w active cnv seq) z
+      ≡ taking (Err (BadZone w.number (zone_fault r.unit w.expected z))) count given w active cnv seq
   unfolding zone_taken
   zone_bad bad = rw bad
 
   module _ (good : good_zone r.unit w.expected z ≡ true) where
     zone-lacks : no_row r.aggregate count w z (rows_lent (length cnv)) (rows_lent (length seq)) ≡ true
-        → zone_taken r (taking Passed count given w active cnv seq) z
-        ≡ taking (Refused TooFewRows) count given w active (run_stored r.aggregate w z cnv) seq
+        → zone_taken r (taking (Ok tt) count given w active cnv seq) z
+        ≡ taking (Err TooFewRows) count given w active (run_stored r.aggregate w z cnv) seq
     unfolding zone_taken good_taken
     zone-lacks lacking = rw (good, lacking)
 
     zone-filed : no_row r.aggregate count w z (rows_lent (length cnv)) (rows_lent (length seq)) ≡ false
-        → zone_taken r (taking Passed count given w active cnv seq) z
-        ≡ taking Passed count given (stepped r.aggregate w z) (active + flag_code (active_file r.explicit w z))
+        → zone_taken r (taking (Ok tt) count given w active cnv seq) z
+        ≡ taking (Ok tt) count given (stepped r.aggregate w z) (active + flag_code (active_file r.explicit w z))
         (put_row (ends_with r.aggregate count (stepped r.aggregate w z)) (run_stored r.aggregate w z cnv) (stepped r.aggregate w z).cnvs
         (row_of_run (stepped r.aggregate w z).run))
         (put_row (is_seq_file w z) seq w.seqs (seq_row z))
@@ -83,7 +83,7 @@ active_taken r seq zs = count_in (is_active r.explicit) (seq_taken seq zs) (walk
 
 module _ (r : Rule) (count : ℕ) (given : Bool) (cnv seq : List ℕ) where
   abbrev pub taken_to : List Zone → Taking
-  taken_to zs = taking Passed count given (walked r.aggregate begun zs) (active_taken r seq zs) (cnv_taken r.aggregate count cnv zs) (seq_taken seq zs)
+  taken_to zs = taking (Ok tt) count given (walked r.aggregate begun zs) (active_taken r seq zs) (cnv_taken r.aggregate count cnv zs) (seq_taken seq zs)
 
   pub taken_none : taken_to [] ≡ after_header count given cnv seq
   unfolding walked cnv_ended cnv_taken seq_rows seq_taken rows_words fill count_in
@@ -116,19 +116,19 @@ module _ (r : Rule) (count : ℕ) (given : Bool) (cnv seq : List ℕ) where
 
     pub taken_bad : good_zone r.unit (end_of 0 zs) z ≡ false
         → zone_taken r (taken_to zs) z
-        ≡ taking (Refused (BadZone (length zs) (zone_fault r.unit (end_of 0 zs) z))) count given (walked r.aggregate begun zs) (active_taken r seq zs)
+        ≡ taking (Err (BadZone (length zs) (zone_fault r.unit (end_of 0 zs) z))) count given (walked r.aggregate begun zs) (active_taken r seq zs)
         (cnv_taken r.aggregate count cnv zs) (seq_taken seq zs)
     taken_bad bad =
         let w = walked r.aggregate begun zs in
         let place : BadZone w.number (zone_fault r.unit w.expected z) ≡ BadZone (length zs) (zone_fault r.unit (end_of 0 zs) z) =
         cc (walked_number r.aggregate zs, walked_expected r.aggregate zs) in
         zone_bad r count given w (active_taken r seq zs) (cnv_taken r.aggregate count cnv zs) (seq_taken seq zs) z (expects ∙ bad)
-        ∙ taking_same count given (ap Refused place) refl refl refl refl
+        ∙ taking_same count given (ap Err place) refl refl refl refl
 
     module _ (good : good_zone r.unit (end_of 0 zs) z ≡ true) (more : length zs < count) where
       pub taken_lacks : out_of_rows r.unit r.aggregate (rows_lent (length cnv)) (rows_lent (length seq)) (zs ++ (z ∷ [])) ≡ true
           → zone_taken r (taken_to zs) z
-          ≡ taking (Refused TooFewRows) count given (walked r.aggregate begun zs) (active_taken r seq zs)
+          ≡ taking (Err TooFewRows) count given (walked r.aggregate begun zs) (active_taken r seq zs)
           (fill cnv (cnv_ended r.aggregate begun (zs ++ (z ∷ [])))) (seq_taken seq zs)
       taken_lacks lacking =
           let w = walked r.aggregate begun zs in

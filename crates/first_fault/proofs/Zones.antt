@@ -1,5 +1,6 @@
 -- Zones taken one after the other come to their first fault, and store the rows of the files that are finished before it.
 -- Assumes nothing.
+use Rattle.std.specs.Prelude.{Ok, Err}
 use mathlib.Core.Path.{◌≡◌, refl, ap, ◌∙◌, sym, subst}
 use mathlib.Core.List.{List, [], ◌∷◌, ◌++◌, append-nil}
 use mathlib.Core.Bool.{Bool, true, false}
@@ -8,8 +9,7 @@ use native.Mathlib.Omega.{arith}
 use lib.ListN.{length, drop, length-append}
 use lib.Seq.{append_snoc}
 use Rattle.types.specs.declared.Refusal.{Refusal}
-use Rattle.types.specs.declared.Verdict.{Verdict}
-use Rattle.types.specs.declared.Verdict.TheVariants.{Passed, Refused}
+use Rattle.types.specs.Answers.{Verdict}
 use Rattle.types.proofs.Tests.{cases}
 use Rattle.table.specs.Rows.{rows_lent}
 use Rattle.zones.specs.declared.Zone.{Zone}
@@ -30,7 +30,7 @@ use Rattle.first_fault.proofs.Taken.{taking, Fitting, taken_to, active_taken, fi
 
 -- a refusal stays
 refused_stays : (r : Rule) (x : Refusal) (count : ℕ) (given : Bool) (w : Walk) (active : ℕ) (cnv seq : List ℕ) (zs : List Zone)
-    → zones_taken r (taking (Refused x) count given w active cnv seq) zs ≡ taking (Refused x) count given w active cnv seq
+    → zones_taken r (taking (Err x) count given w active cnv seq) zs ≡ taking (Err x) count given w active cnv seq
 unfolding zones_taken
 refused_stays r x count given w active cnv seq [] = refl
 refused_stays r x count given w active cnv seq (z ∷ zs) = refused_stays r x count given w active cnv seq zs
@@ -42,11 +42,11 @@ record Reached (r : Rule) (count : ℕ) (given : Bool) (cnv seq : List ℕ) (v :
   seqs : s.seq ≡ fill seq (seq_rows (drop 1 passed))
   counts : s.intake.count ≡ count
   gives : s.intake.given ≡ given
-  whole : s.intake.check ≡ Passed → AllTaken r s all
+  whole : s.intake.check ≡ Ok tt → AllTaken r s all
 
 module _ (r : Rule) (count : ℕ) (given : Bool) (cnv seq : List ℕ) where
   -- no zone is left
-  reached_all : (zs : List Zone) → Reached r count given cnv seq Passed zs zs (taken_to r count given cnv seq zs)
+  reached_all : (zs : List Zone) → Reached r count given cnv seq (Ok tt) zs zs (taken_to r count given cnv seq zs)
   unfolding cnv_taken seq_taken
   reached_all zs =
       record {
@@ -61,8 +61,8 @@ module _ (r : Rule) (count : ℕ) (given : Bool) (cnv seq : List ℕ) where
   -- a refusal, with the conventional table as it leaves it
   reached_refused : (x : Refusal) (zs all : List Zone) (t : List ℕ)
       → t ≡ fill cnv (finished_runs r.unit r.aggregate (rows_lent (length cnv)) (rows_lent (length seq)) count zs all)
-      → Reached r count given cnv seq (Refused x) zs all
-      (taking (Refused x) count given (walked r.aggregate begun zs) (active_taken r seq zs) t (seq_taken seq zs))
+      → Reached r count given cnv seq (Err x) zs all
+      (taking (Err x) count given (walked r.aggregate begun zs) (active_taken r seq zs) t (seq_taken seq zs))
   unfolding seq_taken
   reached_refused x zs all t e =
       record {

@@ -1,5 +1,6 @@
 -- The zones of a report that are there as a whole are taken one after the other, whatever bytes follow.
 -- Assumes nothing.
+use Rattle.std.specs.Prelude.{Ok, Err}
 use Prim.Native.Nat.{ℕ, zero, suc, ◌+◌, ◌*◌, ◌≤◌, ◌<◌}
 use native.Mathlib.Omega.{arith}
 use native.Mathlib.Nat.{add-zero}
@@ -10,8 +11,7 @@ use borrow.Author.Tests.{ne_eqb, lt-leb, le-leb}
 use lib.Dec.{eqb, leb}
 use lib.ListN.{length, drop}
 use Rattle.types.specs.declared.Refusal.{Refusal}
-use Rattle.types.specs.declared.Verdict.{Verdict}
-use Rattle.types.specs.declared.Verdict.TheVariants.{Passed, Refused}
+use Rattle.types.specs.Answers.{Verdict}
 use Rattle.types.proofs.Tests.{cases}
 use Rattle.table.specs.Rows.{rows_lent}
 use Rattle.zones.specs.declared.Zone.{Zone}
@@ -26,17 +26,17 @@ use Rattle.receiving.proofs.Feeding.{fed_refused, fed-zone}
 use Rattle.first_fault.proofs.Fold.{zone_after, zones_taken}
 
 -- passed or refused
-pub verdicts : {X : Type 0} (v : Verdict) → (v ≡ Passed → X) → ((x : Refusal) → v ≡ Refused x → X) → X
-verdicts Passed f g = f refl
-verdicts (Refused x) f g = g x refl
+pub verdicts : {X : Type 0} (v : Verdict) → (v ≡ Ok tt → X) → ((x : Refusal) → v ≡ Err x → X) → X
+verdicts (Ok tt) f g = f refl
+verdicts (Err x) f g = g x refl
 
-pub not_both : {X : Type 0} {v : Verdict} {x : Refusal} → v ≡ Refused x → v ≡ Passed → X
+pub not_both : {X : Type 0} {v : Verdict} {x : Refusal} → v ≡ Err x → v ≡ Ok tt → X
 not_both p q = let z : ◌≡◌ {A = ℕ} 0 1 = cc in absurd (omega arith)
 
 -- WHAT A ZONE LEAVES: what the header says, and unless it is refused the next number
 
 abbrev Next : Intake → Intake → Type 0
-Next i j = (j.count ≡ i.count) × (j.given ≡ i.given) × (j.check ≡ Passed → j.walk.number ≡ i.walk.number + 1)
+Next i j = (j.count ≡ i.count) × (j.given ≡ i.given) × (j.check ≡ Ok tt → j.walk.number ≡ i.walk.number + 1)
 
 refused_next : (i : Intake) (x : Refusal) → Next i (refused_with i x)
 refused_next i x = (refl, refl, λ p. not_both refl p)
@@ -53,12 +53,12 @@ zone_next r s z =
 
 -- ZONES ONE AFTER THE OTHER
 
-pub zones_refused : (r : Rule) (t : Taking) (x : Refusal) (zs : List Zone) → t.intake.check ≡ Refused x → zones_taken r t zs ≡ t
+pub zones_refused : (r : Rule) (t : Taking) (x : Refusal) (zs : List Zone) → t.intake.check ≡ Err x → zones_taken r t zs ≡ t
 unfolding zones_taken
 zones_refused r t x [] h = refl
 zones_refused r t x (z ∷ zs) h = ap (λ (v : Verdict). zones_taken r (zone_after v r t z) zs) h ∙ zones_refused r t x zs h
 
-zones_passed : (r : Rule) (t : Taking) (z : Zone) (zs : List Zone) → t.intake.check ≡ Passed → zones_taken r t (z ∷ zs) ≡ zones_taken r (zone_taken r t z) zs
+zones_passed : (r : Rule) (t : Taking) (z : Zone) (zs : List Zone) → t.intake.check ≡ Ok tt → zones_taken r t (z ∷ zs) ≡ zones_taken r (zone_taken r t z) zs
 unfolding zones_taken
 zones_passed r t z zs h = ap (λ (v : Verdict). zones_taken r (zone_after v r t z) zs) h
 
@@ -66,7 +66,7 @@ zones_passed r t z zs h = ap (λ (v : Verdict). zones_taken r (zone_after v r t 
 pub record Before (b : List ℕ) (t : Taking) (i : ℕ) : Type 0 where
   pub count : t.intake.count ≡ zone_count b
   pub given : t.intake.given ≡ capacity_given b
-  pub number : t.intake.check ≡ Passed → t.intake.walk.number ≡ i
+  pub number : t.intake.check ≡ Ok tt → t.intake.walk.number ≡ i
 
 module _ (r : Rule) (b : List ℕ) (some : 1 ≤ zone_count b) where
   -- where its bytes begin
@@ -74,7 +74,7 @@ module _ (r : Rule) (b : List ℕ) (some : 1 ≤ zone_count b) where
   from i = drop (header_bytes + zone_bytes * i) b
 
   -- one zone, where none was refused
-  zone-fed : (t : Taking) (i : ℕ) → Before b t i → t.intake.check ≡ Passed → i < zone_count b → header_bytes + zone_bytes * (i + 1) ≤ length b
+  zone-fed : (t : Taking) (i : ℕ) → Before b t i → t.intake.check ≡ Ok tt → i < zone_count b → header_bytes + zone_bytes * (i + 1) ≤ length b
       → fed r (between t) (from i) ≡ fed r (between (zone_taken r t (report_zone b i))) (from (i + 1))
   zone-fed t i so passed here fits =
       let known : eqb t.intake.count 0 ≡ false = ne_eqb t.intake.count 0 (λ q. omega (arith, so.count)) in
@@ -86,7 +86,7 @@ module _ (r : Rule) (b : List ℕ) (some : 1 ≤ zone_count b) where
       ∙ ap (λ (k : ℕ). fed r (between (zone_taken r t (zone_at t.intake.given b (header_bytes + zone_bytes * i)))) (drop k b)) there
       ∙ ap (λ (g : Bool). fed r (between (zone_taken r t (zone_at g b (header_bytes + zone_bytes * i)))) (from (i + 1))) so.given
 
-  before_next : (t : Taking) (i : ℕ) → Before b t i → t.intake.check ≡ Passed → Before b (zone_taken r t (report_zone b i)) (i + 1)
+  before_next : (t : Taking) (i : ℕ) → Before b t i → t.intake.check ≡ Ok tt → Before b (zone_taken r t (report_zone b i)) (i + 1)
   before_next t i so passed =
       let n = zone_next r t (report_zone b i) in
       record { count = n.0 ∙ so.count; given = n.1 ∙ so.given; number = λ p. n.2 p ∙ ap (λ (k : ℕ). k + 1) (so.number passed) }

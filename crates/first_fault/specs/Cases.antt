@@ -3,7 +3,7 @@
 use Rattle.std.specs.Prelude.{Bool, true, false, List, [], ◌∷◌, ◌++◌, ℕ, length, take}
 use Rattle.types.specs.Numbers.{verdict_number, verdict_values}
 use Rattle.types.specs.Stated.{Case, is, AsStated}
-use Rattle.types.specs.declared.Verdict.{Verdict}
+use Rattle.types.specs.Answers.{Verdict}
 use Rattle.types.specs.declared.Row.{Row}
 use Rattle.wire.specs.Le.{little}
 use Rattle.zones.specs.declared.Zone.{Zone}

@@ -1,12 +1,10 @@
 -- 02, K4, as it is proved: the claims about a mount whose report arrives in pieces. Each holds for every report, every list of pieces that it is cut into,
 -- and every table (the laws of the same names in `proofs/`).
-use Rattle.std.specs.Prelude.{ℕ, Bool, ◌≡◌, List, [], ◌∷◌, ◌++◌, length}
+use Rattle.std.specs.Prelude.{ℕ, Bool, ◌≡◌, List, [], ◌∷◌, ◌++◌, length, Ok, Err}
 use Rattle.types.specs.declared.Refusal.{Refusal}
 use Rattle.types.specs.Mounts.{empty_mount}
 use Rattle.types.specs.Numbers.{mount_number}
-use Rattle.types.specs.declared.Verdict.{Verdict}
-use Rattle.types.specs.declared.Verdict.TheVariants as verdict
-use Rattle.types.specs.declared.MountAnswer.TheVariants.{Refused, Mounted}
+use Rattle.types.specs.Answers.{Verdict}
 use Rattle.table.specs.Rows.{rows_lent}
 use Rattle.mount.specs.Fill.{fill}
 use Rattle.mount.specs.Mount.{Mounting}
@@ -49,18 +47,18 @@ pub record FirstFault (r : Rule) (b cnv seq : List ℕ) : Type 0 where
 
 -- "A report that the whole mount accepts gives the same tables, counts and answer in pieces": so does its mount value with its account
 pub record AcceptedAlike (whole : Mounting) (begin : Beginning) (f : Fed) (e : Ended) (cnvs seqs : ℕ) : Type 0 where
-  pub begins : begin.answer ≡ verdict.Passed
-  pub passes : f.answer ≡ verdict.Passed
-  pub ends : e.answer ≡ Mounted cnvs seqs
+  pub begins : begin.answer ≡ Ok tt
+  pub passes : f.answer ≡ Ok tt
+  pub ends : e.answer ≡ Ok (cnvs, seqs)
   pub mount : e.mount ≡ whole.mount
   pub cnv : f.cnv ≡ whole.cnv
   pub seq : f.seq ≡ whole.seq
 
 -- "one that it refuses is refused in pieces too": where begin refuses, it refuses alike, and else there is a fault, so that the end doesn't mount
 pub record RefusedToo (x : Refusal) (begin : Beginning) (fault : Verdict) (e : Ended) : Type 0 where
-  pub begins : (y : Refusal) → begin.answer ≡ verdict.Refused y → y ≡ x
-  pub faulty : begin.answer ≡ verdict.Passed → fault ≡ verdict.Passed → ⊥
-  pub ends : begin.answer ≡ verdict.Passed → (cnvs seqs : ℕ) → e.answer ≡ Mounted cnvs seqs → ⊥
+  pub begins : (y : Refusal) → begin.answer ≡ Err y → y ≡ x
+  pub faulty : begin.answer ≡ Ok tt → fault ≡ Ok tt → ⊥
+  pub ends : begin.answer ≡ Ok tt → (cnvs seqs : ℕ) → e.answer ≡ Ok (cnvs, seqs) → ⊥
 
 -- "with its first fault in byte order .., and the same rows whatever the cuts": of a mount in pieces that are b together. The last piece answers the first
 -- fault; the end too, or a missing byte, and then "no mount is handed out"; without a fault it answers 0
@@ -68,11 +66,11 @@ pub record PiecesCome (unit : ℕ) (aggregate : Bool) (b cnv seq : List ℕ) (f 
   pub answer : f.answer ≡ first_fault unit aggregate (rows_lent (length cnv)) (rows_lent (length seq)) b
   pub cnvs : f.cnv ≡ fill cnv (finished_cnv unit aggregate (rows_lent (length cnv)) (rows_lent (length seq)) b)
   pub seqs : f.seq ≡ fill seq (finished_seq unit aggregate (rows_lent (length cnv)) (rows_lent (length seq)) b)
-  pub refused : (x : Refusal) → end_fault unit aggregate (rows_lent (length cnv)) (rows_lent (length seq)) b ≡ verdict.Refused x
-      → (e.answer ≡ Refused x) × (e.mount ≡ empty_mount)
-  pub mounted : end_fault unit aggregate (rows_lent (length cnv)) (rows_lent (length seq)) b ≡ verdict.Passed → mount_number e.answer ≡ 0
+  pub refused : (x : Refusal) → end_fault unit aggregate (rows_lent (length cnv)) (rows_lent (length seq)) b ≡ Err x
+      → (e.answer ≡ Err x) × (e.mount ≡ empty_mount)
+  pub mounted : end_fault unit aggregate (rows_lent (length cnv)) (rows_lent (length seq)) b ≡ Ok tt → mount_number e.answer ≡ 0
 
 -- decided: after a refusal every further piece, whatever tables it is lent, and the end answer the same again and change nothing
 pub record StaysRefused (x : Refusal) (p : Pieces) (b cnv seq : List ℕ) : Type 0 where
-  pub piece : piece_outcome p b cnv seq ≡ record { answer = verdict.Refused x; pieces = p; cnv = cnv; seq = seq }
-  pub ends : end_outcome p ≡ record { answer = Refused x; mount = empty_mount; pieces = p }
+  pub piece : piece_outcome p b cnv seq ≡ record { answer = Err x; pieces = p; cnv = cnv; seq = seq }
+  pub ends : end_outcome p ≡ record { answer = Err x; mount = empty_mount; pieces = p }

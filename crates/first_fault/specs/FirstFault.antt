@@ -1,11 +1,10 @@
 -- 02, K4: "refused in pieces too, with its first fault in byte order, a missing or extra byte (28) at its place, a zone's fault at its last byte, and the
 -- same rows whatever the cuts". What a report's bytes come to that have arrived so far, said over its list of zones, with tables of so many rows. The law
 -- `first_fault_lem` shows that the bytes taken one after the other come to exactly this.
-use Rattle.std.specs.Prelude.{ℕ, ◌+◌, ◌-◌, ◌*◌, ◌/◌, min, List, [], ◌∷◌, ◌++◌, Bool, false, cond, not, ◌&&◌, ◌||◌, length, take, drop, eqb, leb, ltb}
+use Rattle.std.specs.Prelude.{ℕ, ◌+◌, ◌-◌, ◌*◌, ◌/◌, min, List, [], ◌∷◌, ◌++◌, Bool, false, cond, not, ◌&&◌, ◌||◌, length, take, drop, eqb, leb, ltb, Ok, Err}
 use Rattle.types.specs.Verdicts.{refuse, and_then}
 use Rattle.types.specs.declared.Refusal.TheVariants.{BadReport, BadZone, TooFewRows}
-use Rattle.types.specs.declared.Verdict.{Verdict}
-use Rattle.types.specs.declared.Verdict.TheVariants.{Passed, Refused}
+use Rattle.types.specs.Answers.{Verdict}
 use Rattle.types.specs.declared.Row.{Row}
 use Rattle.zones.specs.declared.Zone.{Zone}
 use Rattle.zones.specs.Zone.{zone_bytes, conventional, good_zone}
@@ -37,17 +36,17 @@ module _ (unit : ℕ) (aggregate : Bool) (cnv_room seq_room : ℕ) where
   unfoldable pub fault_after : List Zone → Zone → Verdict
   fault_after before z =
       refuse (not (good_zone unit (end_of 0 before) z)) (BadZone (length before) (zone_fault unit (end_of 0 before) z))
-      (refuse (out_of_rows (before ++ (z ∷ []))) TooFewRows Passed)
+      (refuse (out_of_rows (before ++ (z ∷ []))) TooFewRows (Ok tt))
 
   -- the first fault of those that come after these
   unfoldable pub fault_from : List Zone → List Zone → Verdict
-  fault_from before [] = Passed
+  fault_from before [] = Ok tt
   fault_from before (z ∷ zs) = and_then (fault_after before z) (fault_from (before ++ (z ∷ [])) zs)
 
   -- the zones before it
   abbrev pub on_passed : Verdict → List Zone → List Zone → List Zone
-  on_passed Passed before rest = rest
-  on_passed (Refused x) before rest = before
+  on_passed (Ok tt) before rest = rest
+  on_passed (Err x) before rest = before
 
   unfoldable pub passed_from : List Zone → List Zone → List Zone
   passed_from before [] = before
@@ -60,12 +59,12 @@ module _ (unit : ℕ) (aggregate : Bool) (cnv_room seq_room : ℕ) where
   first_fault b =
       cond (leb header_bytes (length b))
       (refuse (not (good_fields b)) BadReport
-      (and_then (fault_from [] (whole_zones b)) (refuse (ltb (report_bytes b) (length b)) BadReport Passed)))
-      Passed
+      (and_then (fault_from [] (whole_zones b)) (refuse (ltb (report_bytes b) (length b)) BadReport (Ok tt))))
+      (Ok tt)
 
   -- the same at the end, where bytes are missing
   unfoldable pub end_fault : List ℕ → Verdict
-  end_fault b = and_then (first_fault b) (refuse (ltb (length b) header_bytes || ltb (length b) (report_bytes b)) BadReport Passed)
+  end_fault b = and_then (first_fault b) (refuse (ltb (length b) header_bytes || ltb (length b) (report_bytes b)) BadReport (Ok tt))
 
   -- the zones that were taken before it: none before a good header
   unfoldable pub passed_zones : List ℕ → List Zone

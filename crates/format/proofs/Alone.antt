@@ -1,5 +1,6 @@
 -- A disk that is zone 0 alone: the report of a record that is good as a report's first, and a mount with it.
 -- Assumes nothing.
+use Rattle.std.specs.Prelude.{Ok, None}
 use Prim.Native.Nat.{ℕ}
 use mathlib.Core.Path.{◌≡◌, refl, ap}
 use mathlib.Core.Bool.{Bool, true, false, not}
@@ -7,8 +8,6 @@ use mathlib.Core.List.{List, [], ◌∷◌}
 use lib.ListN.{length, drop}
 use borrow.Author.Tests.{eqb-true, not-false}
 use Rattle.types.specs.declared.Refusal.TheVariants.{BadBlock, BadReport, BadOptions, TooFewRows, BadZone}
-use Rattle.types.specs.declared.ZoneFault.TheVariants as fault
-use Rattle.types.specs.declared.Verdict.TheVariants.{Passed}
 use Rattle.types.specs.Blocks.{block_sectors, good_block}
 use Rattle.types.proofs.VerdictLaws.{check_passed, check_passes, then_passes}
 use Rattle.wire.specs.Le.{le, little}
@@ -35,14 +34,14 @@ no_files : (given : Bool) (zone : List ℕ) → file_zones (alone given zone) �
 unfolding file_zones
 no_files given zone = ap (drop 1) (only given zone)
 
-module _ (block : ℕ) (given : Bool) (zone : List ℕ) (unit : good_block block ≡ true) (first : record_check (block_sectors block) given zone ≡ Passed) where
-  good_report : report_check (block_sectors block) (alone given zone) ≡ Passed
+module _ (block : ℕ) (given : Bool) (zone : List ℕ) (unit : good_block block ≡ true) (first : record_check (block_sectors block) given zone ≡ Ok tt) where
+  good_report : report_check (block_sectors block) (alone given zone) ≡ Ok tt
   unfolding report_check record_check
   good_report =
-      let (size, good) = check_passed (BadZone 0 fault.Nothing) first in
+      let (size, good) = check_passed (BadZone 0 None) first in
       check_passes BadReport (ap not (header given zone (eqb-true _ _ (not-false _ size)))) (rw (only given zone) good)
 
-  opening : opening_check block Passed (options_of []) ≡ Passed
+  opening : opening_check block (Ok tt) (options_of []) ≡ Ok tt
   unfolding opening_check options_of split skip_empty
   opening = check_passes BadBlock (ap not unit) (then_passes refl (check_passes BadOptions refl refl))
 
@@ -50,6 +49,6 @@ module _ (block : ℕ) (given : Bool) (zone : List ℕ) (unit : good_block block
   unfolding cnv_rows runs seq_rows
   room aggregate = rw (no_files given zone)
 
-  pub mounts_alone : (aggregate : Bool) → mount_check block Passed (options_of []) aggregate (alone given zone) 0 0 ≡ Passed
+  pub mounts_alone : (aggregate : Bool) → mount_check block (Ok tt) (options_of []) aggregate (alone given zone) 0 0 ≡ Ok tt
   unfolding mount_check files_check
   mounts_alone aggregate = then_passes opening (then_passes good_report (check_passes TooFewRows (room aggregate) refl))

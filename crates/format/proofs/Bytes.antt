@@ -22,28 +22,25 @@ filled-length label h = omega (arith, length-append label (replicate (label_leng
 
 module _ (label uuid : List ℕ) where
   abbrev names : List ℕ
-  names = little 4 magic ++ (little 4 0 ++ (filled label ++ uuid))
+  names = little 4 magic ++ (little 4 0 ++ (label ++ uuid))
 
-  pub names_put : length label ≤ label_length → (a b c d e f : List ℕ) → b ≡ sets a 0 (little 4 magic) → c ≡ sets b 4 (little 4 0) → d ≡ sets c 8 label
-      → e ≡ sets d (8 + length label) (replicate (label_length - length label) 0) → f ≡ sets e 72 uuid → f ≡ sets a 0 names
-  names_put short a b c d e f p q r s t =
-      let end : ℕ = 8 + length label in
-      let rest : List ℕ = replicate (label_length - length label) 0 in
+  pub names_put : length label ≡ label_length → (a b c d e : List ℕ) → b ≡ sets a 0 (little 4 magic) → c ≡ sets b 4 (little 4 0) → d ≡ sets c 8 label
+      → e ≡ sets d 72 uuid → e ≡ sets a 0 names
+  names_put whole a b c d e p q r s =
       let first : Put a b 0 4 (little 4 magic) = record { bytes = p; place = omega (arith, length-little 4 magic) } in
       let sum : Put b c 4 8 (little 4 0) = record { bytes = q; place = omega (arith, length-little 4 0) } in
-      let name : Put c d 8 end label = record { bytes = r; place = refl } in
-      let zeros : Put d e end 72 rest = record { bytes = s; place = omega (arith, length-replicate {A = ℕ} (label_length - length label) 0) } in
-      let last : Put e f 72 (72 + length uuid) uuid = record { bytes = t; place = refl } in
-      (then first (then sum (then (then name zeros) last))).bytes
+      let name : Put c d 8 72 label = record { bytes = r; place = omega arith } in
+      let last : Put d e 72 (72 + length uuid) uuid = record { bytes = s; place = refl } in
+      (then first (then sum (then name last))).bytes
 
-  names_length : length label ≤ label_length → length uuid ≡ uuid_length → length names ≡ 88
-  names_length short u =
-      omega (arith, length-append (little 4 magic) (little 4 0 ++ (filled label ++ uuid)), length-append (little 4 0) (filled label ++ uuid), length-append (filled label) uuid, length-little 4 magic, length-little 4 0, filled-length label short, u)
+  names_length : length label ≡ label_length → length uuid ≡ uuid_length → length names ≡ 88
+  names_length whole u =
+      omega (arith, length-append (little 4 magic) (little 4 0 ++ (label ++ uuid)), length-append (little 4 0) (label ++ uuid), length-append label uuid, length-little 4 magic, length-little 4 0, whole, u)
 
-  names_apart : (rest : List ℕ) → names ++ rest ≡ little 4 magic ++ (little 4 0 ++ (filled label ++ (uuid ++ rest)))
+  names_apart : (rest : List ℕ) → names ++ rest ≡ little 4 magic ++ (little 4 0 ++ (label ++ (uuid ++ rest)))
   names_apart rest =
-      append_assoc (little 4 magic) (little 4 0 ++ (filled label ++ uuid)) rest
-      ∙ ap (λ (l : List ℕ). little 4 magic ++ l) (append_assoc (little 4 0) (filled label ++ uuid) rest ∙ ap (λ (l : List ℕ). little 4 0 ++ l) (append_assoc (filled label) uuid rest))
+      append_assoc (little 4 magic) (little 4 0 ++ (label ++ uuid)) rest
+      ∙ ap (λ (l : List ℕ). little 4 magic ++ l) (append_assoc (little 4 0) (label ++ uuid) rest ∙ ap (λ (l : List ℕ). little 4 0 ++ l) (append_assoc label uuid rest))
 
 module _ (features owner group mode : ℕ) where
   abbrev numbers : List ℕ
@@ -78,7 +75,7 @@ module _ (features owner group mode : ℕ) where
 
 -- ALL OF THEM
 
-module _ (label uuid : List ℕ) (features owner group mode : ℕ) (short : length label ≤ label_length) (sixteen : length uuid ≡ uuid_length) where
+module _ (label uuid : List ℕ) (features owner group mode : ℕ) (short : length label ≡ label_length) (sixteen : length uuid ≡ uuid_length) where
   abbrev front : List ℕ
   front = names label uuid
 
@@ -87,7 +84,7 @@ module _ (label uuid : List ℕ) (features owner group mode : ℕ) (short : leng
 
   -- with a checksum of zero, and zeros to the end
   laid : (a b c d : List ℕ) → length a ≡ super_length → b ≡ sets a 0 front → c ≡ sets b 88 back → d ≡ sets c tail_place (replicate (length c - tail_place) 0)
-      → d ≡ encode_super 0 (filled label) uuid features owner group mode
+      → d ≡ encode_super 0 label uuid features owner group mode
   unfolding encode_super
   laid a b c d size p q r =
       let room : length c ≡ super_length = ap length q ∙ length-sets b 88 back ∙ ap length p ∙ length-sets a 0 front ∙ size in
@@ -100,16 +97,16 @@ module _ (label uuid : List ℕ) (features owner group mode : ℕ) (short : leng
       (then first (then second last)).bytes
       ∙ put_all a (front ++ (back ++ zeros)) long
       ∙ names_apart label uuid (back ++ zeros)
-      ∙ ap (λ (l : List ℕ). little 4 magic ++ (little 4 0 ++ (filled label ++ (uuid ++ l)))) (numbers_apart features owner group mode zeros)
-      ∙ ap (λ (n : ℕ). little 4 magic ++ (little 4 0 ++ (filled label ++ (uuid ++ (little 8 features ++ (little 4 owner ++ (little 4 group ++ (little 4 mode ++ replicate (n - tail_place) 0)))))))) room
+      ∙ ap (λ (l : List ℕ). little 4 magic ++ (little 4 0 ++ (label ++ (uuid ++ l)))) (numbers_apart features owner group mode zeros)
+      ∙ ap (λ (n : ℕ). little 4 magic ++ (little 4 0 ++ (label ++ (uuid ++ (little 8 features ++ (little 4 owner ++ (little 4 group ++ (little 4 mode ++ replicate (n - tail_place) 0)))))))) room
 
   -- the checksum goes into its field, and nothing else changes
-  sealed : (c d : ℕ) → sets (encode_super c (filled label) uuid features owner group mode) 4 (little 4 d) ≡ encode_super d (filled label) uuid features owner group mode
+  sealed : (c d : ℕ) → sets (encode_super c label uuid features owner group mode) 4 (little 4 d) ≡ encode_super d label uuid features owner group mode
   unfolding encode_super little
   sealed c d = refl
 
   pub super_put : (a b c d e : List ℕ) → length a ≡ super_length → b ≡ sets a 0 front → c ≡ sets b 88 back → d ≡ sets c tail_place (replicate (length c - tail_place) 0)
-      → e ≡ sets d 4 (little 4 (superblock_crc d)) → e ≡ super_bytes (filled label) uuid features owner group mode
+      → e ≡ sets d 4 (little 4 (superblock_crc d)) → e ≡ super_bytes label uuid features owner group mode
   unfolding super_bytes
   super_put a b c d e size p q r s =
       let whole = laid a b c d size p q r in

@@ -1,5 +1,7 @@
 -- The formatter's promises hold.
 -- Assumes nothing.
+use Rattle.types.specs.declared.Refusal.{Refusal}
+use Rattle.std.specs.Prelude.{Ok, Err, Result}
 use Prim.Native.Nat.{ℕ, ◌-◌, ◌<◌}
 use native.Mathlib.Omega.{arith}
 use mathlib.Core.Path.{◌≡◌, refl, ap, ◌∙◌}
@@ -7,16 +9,12 @@ use mathlib.Core.Bool.{Bool, true}
 use mathlib.Core.List.{List, ◌++◌, append-nil}
 use lib.ListN.{length, get_or, drop, replicate, length-drop}
 use lib.Seq.{length-take-le}
-use Rattle.types.specs.declared.Verdict.{Verdict}
-use Rattle.types.specs.declared.Verdict.TheVariants as verdict
-use Rattle.types.specs.declared.MountAnswer.TheVariants.{Mounted}
-use Rattle.types.specs.declared.FormatAnswer.TheVariants.{Formatted}
+use Rattle.types.specs.Answers.{Verdict}
 use Rattle.types.specs.Blocks.{block_sectors, good_block}
 use Rattle.table.specs.Rows.{rows_lent}
 use Rattle.wire.proofs.Laws.{append_bytes}
 use Rattle.superblock.specs.declared.SuperBlock.{SuperBlock}
-use Rattle.superblock.specs.declared.SuperRead.{SuperRead}
-use Rattle.superblock.specs.SuperBlock.{super_length, label_length, label_at, super_bytes, aggregates, super_check, super_read}
+use Rattle.superblock.specs.SuperBlock.{super_length, label_length, label_at, super_bytes, aggregates, super_check, super_read, fields_in}
 use Rattle.superblock.proofs.Bounds.{zero_bytes}
 use Rattle.superblock.proofs.Told.{values_pass, super_told}
 use Rattle.superblock.proofs.Written as written
@@ -35,29 +33,29 @@ use Rattle.format.proofs.Checks.{Told, format_told, format_passes}
 
 -- A MOUNT of a super block that is found good, all else good
 
-mounts : (unit : ℕ) (superblock options report : List ℕ) (open_limit active_limit : ℕ) (cnv seq : List ℕ) (f : SuperBlock) → super_read superblock ≡ record { check = verdict.Passed; fields = f }
-    → mount_check unit verdict.Passed (options_of options) f.aggregate report (rows_lent (length cnv)) (rows_lent (length seq)) ≡ verdict.Passed
+mounts : (unit : ℕ) (superblock options report : List ℕ) (open_limit active_limit : ℕ) (cnv seq : List ℕ) (f : SuperBlock) → super_read superblock ≡ Ok f
+    → mount_check unit (Ok tt) (options_of options) f.aggregate report (rows_lent (length cnv)) (rows_lent (length seq)) ≡ Ok tt
     → mount_outcome unit superblock options report open_limit active_limit cnv seq ≡ record {
-      answer = Mounted (length (cnv_rows f.aggregate (file_zones report))) (length (seq_rows (file_zones report)));
+      answer = Ok (length (cnv_rows f.aggregate (file_zones report)), length (seq_rows (file_zones report)));
       mount =
-          mount_of (Mounted (length (cnv_rows f.aggregate (file_zones report))) (length (seq_rows (file_zones report)))) unit f (options_of options) open_limit active_limit
+          mount_of (Ok (length (cnv_rows f.aggregate (file_zones report)), length (seq_rows (file_zones report)))) unit f (options_of options) open_limit active_limit
           (fill seq (seq_rows (file_zones report)));
       cnv = fill cnv (cnv_rows f.aggregate (file_zones report));
       seq = fill seq (seq_rows (file_zones report));
     }
 unfolding mount_outcome mount_answer mount_answer_of answer_for table_after
 mounts unit superblock options report open_limit active_limit cnv seq f r p =
-    let bit : aggregated superblock ≡ f.aggregate = ap (λ (x : SuperRead). x.fields.aggregate) r in
+    let bit : aggregated superblock ≡ f.aggregate = ap (λ (x : Result SuperBlock Refusal). (fields_in x).aggregate) r in
     rw (r, bit, p)
 
 -- AN ANSWER OF 0 comes after checks that found nothing, and with the block written
 
-formatted : (x : Verdict) (lent : List ℕ) (v : SuperFields) (z : Zone) (finish : Bool) → (format_as x lent v z).answer ≡ Formatted finish → (x ≡ verdict.Passed) × ((format_as x lent v z).block ≡ block_of v)
-formatted verdict.Passed lent v z finish e = (refl, refl)
-formatted (verdict.Refused r) lent v z finish e = let z : ◌≡◌ {A = ℕ} 0 1 = cc in absurd (omega arith)
+formatted : (x : Verdict) (lent : List ℕ) (v : SuperFields) (z : Zone) (finish : Bool) → (format_as x lent v z).answer ≡ Ok finish → (x ≡ Ok tt) × ((format_as x lent v z).block ≡ block_of v)
+formatted (Ok tt) lent v z finish e = (refl, refl)
+formatted (Err r) lent v z finish e = let z : ◌≡◌ {A = ℕ} 0 1 = cc in absurd (omega arith)
 
-module _ (block : ℕ) (lent zone : List ℕ) (v : SuperFields) (given finish : Bool) (e : (format_outcome block lent v given zone).answer ≡ Formatted finish) where
-  done : (format_check block lent v given zone ≡ verdict.Passed) × ((format_outcome block lent v given zone).block ≡ block_of v)
+module _ (block : ℕ) (lent zone : List ℕ) (v : SuperFields) (given finish : Bool) (e : (format_outcome block lent v given zone).answer ≡ Ok finish) where
+  done : (format_check block lent v given zone ≡ Ok tt) × ((format_outcome block lent v given zone).block ≡ block_of v)
   unfolding format_outcome
   done = formatted (format_check block lent v given zone) lent v (zone_at given zone 0) finish e
 
@@ -127,7 +125,7 @@ whole_label label e =
     let none : label_length - length label ≡ 0 = omega arith in
     ap (λ (n : ℕ). label ++ replicate n 0) none ∙ append-nil label
 
-module _ (b : List ℕ) (bytes : (k : ℕ) → get_or b k 0 < 256) (accepted : super_check b ≡ verdict.Passed) where
+module _ (b : List ℕ) (bytes : (k : ℕ) → get_or b k 0 < 256) (accepted : super_check b ≡ Ok tt) where
   label_length_lem : length (label_at b) ≡ label_length
   label_length_lem = length-take-le label_length (drop 8 b) (omega (arith, length-drop 8 b, (super_told b accepted).size))
 
@@ -135,8 +133,8 @@ module _ (b : List ℕ) (bytes : (k : ℕ) → get_or b k 0 < 256) (accepted : s
   unfolding fields_at
   same_block = rw (whole_label (label_at b) label_length_lem) (written.written_again b bytes accepted)
 
-  passes : (block : ℕ) (lent zone : List ℕ) (given : Bool) → good_block block ≡ true → length lent ≡ super_length → record_check (block_sectors block) given zone ≡ verdict.Passed
-      → format_check block lent (fields_at b) given zone ≡ verdict.Passed
+  passes : (block : ℕ) (lent zone : List ℕ) (given : Bool) → good_block block ≡ true → length lent ≡ super_length → record_check (block_sectors block) given zone ≡ Ok tt
+      → format_check block lent (fields_at b) given zone ≡ Ok tt
   unfolding fields_at
   passes block lent zone given unit size first =
       format_passes block lent (fields_at b) given zone (record {
@@ -150,4 +148,4 @@ module _ (b : List ℕ) (bytes : (k : ℕ) → get_or b k 0 < 256) (accepted : s
 pub read_written : ReadWritten
 unfolding ReadWritten fields_read format_outcome
 read_written b bytes accepted block lent zone given unit size first =
-    rw (accepted, passes b bytes accepted block lent zone given unit size first, same_block b bytes accepted)
+    (rw accepted, rw (passes b bytes accepted block lent zone given unit size first, same_block b bytes accepted))

@@ -1,19 +1,16 @@
 -- The formatter. 02: "Write the super block from label, uuid, features, owner, group and mode, and say whether zone 0 must first be finished".
-use Rattle.std.specs.Prelude.{ℕ, ◌-◌, List, [], ◌∷◌, ◌++◌, Bool, not, ◌&&◌, length, replicate, ltb, eqb}
+use Rattle.std.specs.Prelude.{ℕ, ◌-◌, List, [], ◌∷◌, ◌++◌, Bool, not, ◌&&◌, length, replicate, ltb, eqb, Result, Ok, Err, None}
+use Rattle.types.specs.declared.Refusal.{Refusal}
 use Rattle.types.specs.declared.Refusal.TheVariants.{BadBlock, SuperLength, LabelLength, BadZone}
-use Rattle.types.specs.declared.ZoneFault.TheVariants as fault
-use Rattle.types.specs.declared.Verdict.{Verdict}
-use Rattle.types.specs.declared.Verdict.TheVariants as verdict
-use Rattle.types.specs.declared.FormatAnswer.{FormatAnswer}
-use Rattle.types.specs.declared.FormatAnswer.TheVariants.{Refused, Formatted}
+use Rattle.types.specs.Answers.{Verdict}
+use Rattle.types.specs.Answers.{FormatAnswer}
 use Rattle.types.specs.Blocks.{bytes_of, block_sectors, good_block}
 use Rattle.types.specs.Verdicts.{refuse}
-use Rattle.superblock.specs.SuperBlock.{label_length, label_at, uuid_length, uuid_at, features_at, uid_at, gid_at, perm_at, super_bytes, wrong_length, values_check, super_check}
+use Rattle.superblock.specs.SuperBlock.{label_length, label_at, uuid_at, features_at, uid_at, gid_at, perm_at, super_bytes, wrong_length, values_check, super_check}
 use Rattle.zones.specs.declared.Zone.{Zone}
 use Rattle.zones.specs.Zone.{zone_bytes, zone_at, sequential, healthy, written_size}
 use Rattle.report.specs.Report.{zones_check}
 use Rattle.format.specs.declared.SuperFields.{SuperFields}
-use Rattle.format.specs.declared.FieldsRead.{FieldsRead}
 
 -- ---- zone 0
 
@@ -25,7 +22,7 @@ must_finish z = sequential z && healthy z && ltb (written_size z) (bytes_of z.ca
 -- no field to name: reason 0
 unfoldable pub record_check : ℕ → Bool → List ℕ → Verdict
 record_check unit given zone =
-    refuse (not (eqb (length zone) zone_bytes)) (BadZone 0 fault.Nothing) (zones_check unit 0 0 (zone_at given zone 0 ∷ []))
+    refuse (not (eqb (length zone) zone_bytes)) (BadZone 0 None) (zones_check unit 0 0 (zone_at given zone 0 ∷ []))
 
 -- ---- what is written
 
@@ -57,8 +54,8 @@ pub record Formatting : Type 0 where
 
 -- "all before a byte is written": a refusal leaves the lent block as it was
 abbrev pub format_as : Verdict → List ℕ → SuperFields → Zone → Formatting
-format_as verdict.Passed lent v z = record { answer = Formatted (must_finish z); block = block_of v }
-format_as (verdict.Refused x) lent v z = record { answer = Refused x; block = lent }
+format_as (Ok tt) lent v z = record { answer = Ok (must_finish z); block = block_of v }
+format_as (Err x) lent v z = record { answer = Err x; block = lent }
 
 unfoldable pub format_outcome : ℕ → List ℕ → SuperFields → Bool → List ℕ → Formatting
 format_outcome block lent v given zone = format_as (format_check block lent v given zone) lent v (zone_at given zone 0)
@@ -76,13 +73,13 @@ fields_at b =
       mode = perm_at b;
     }
 
--- the fields that stand beside a refusal
-abbrev pub blank : SuperFields
-blank = record { label = replicate label_length 0; uuid = replicate uuid_length 0; features = 0; owner = 0; group = 0; mode = 0 }
+-- what reading gives: the fields, or the refusal of the mount's checks
+abbrev pub FieldsRead : Type 0
+FieldsRead = Result SuperFields Refusal
 
 abbrev pub fields_as : Verdict → List ℕ → FieldsRead
-fields_as verdict.Passed b = record { check = verdict.Passed; fields = fields_at b }
-fields_as (verdict.Refused x) b = record { check = verdict.Refused x; fields = blank }
+fields_as (Ok tt) b = Ok (fields_at b)
+fields_as (Err x) b = Err x
 
 -- a mount's checks of the super block, and the fields where they are passed
 unfoldable pub fields_read : List ℕ → FieldsRead

@@ -1,12 +1,10 @@
 -- What the formatter's two functions return to a caller in C, and leave in the memory that they were lent.
-use Rattle.std.specs.Prelude.{ℕ, List, [], ◌∷◌, Bool, cond, ◌&&◌, length, leb, eqb}
+use Rattle.std.specs.Prelude.{ℕ, List, [], ◌∷◌, Bool, cond, ◌&&◌, length, leb, eqb, Ok, Err}
 use Rattle.types.specs.declared.Refusal.TheVariants.{Impossible}
-use Rattle.types.specs.declared.Verdict.{Verdict}
-use Rattle.types.specs.declared.Verdict.TheVariants as verdict
 use Rattle.types.specs.Numbers.{refusal_number, refusal_values, format_number, format_values}
 use Rattle.superblock.specs.SuperBlock.{label_length, uuid_length}
 use Rattle.format.specs.declared.SuperFields.{SuperFields}
-use Rattle.format.specs.Format.{Formatting, format_outcome, fields_read}
+use Rattle.format.specs.Format.{Formatting, FieldsRead, format_outcome, fields_read}
 use Rattle.answer_words.specs.Answers.{answer_length, answer_words, written}
 
 -- ---- formatting
@@ -46,17 +44,17 @@ unfoldable pub readable : ℕ → ℕ → ℕ → Bool
 readable label uuid room = eqb label label_length && eqb uuid uuid_length && leb answer_length room
 
 -- a refusal leaves label and uuid as they were
-abbrev pub told_read : Verdict → SuperFields → List ℕ → List ℕ → List ℕ → Read
-told_read verdict.Passed v label uuid a =
+abbrev pub told_read : FieldsRead → List ℕ → List ℕ → List ℕ → Read
+told_read (Ok v) label uuid a =
     record {
       number = 0;
       label = v.label;
       uuid = v.uuid;
       answer = written a (answer_words (v.features ∷ v.owner ∷ v.group ∷ v.mode ∷ []));
     }
-told_read (verdict.Refused x) v label uuid a = record { number = refusal_number x; label = label; uuid = uuid; answer = written a (answer_words (refusal_values x)) }
+told_read (Err x) label uuid a = record { number = refusal_number x; label = label; uuid = uuid; answer = written a (answer_words (refusal_values x)) }
 
 unfoldable pub fields_words : List ℕ → List ℕ → List ℕ → List ℕ → Read
 fields_words b label uuid a =
-    cond (readable (length label) (length uuid) (length a)) (told_read (fields_read b).check (fields_read b).fields label uuid a)
+    cond (readable (length label) (length uuid) (length a)) (told_read (fields_read b) label uuid a)
     (record { number = refusal_number Impossible; label = label; uuid = uuid; answer = a })

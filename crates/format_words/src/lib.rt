@@ -7,10 +7,11 @@ ghost use Rattle.superblock.specs.SuperBlock.{label_length, uuid_length};
 ghost use Rattle.answer_words.specs.Answers.{answer_length};
 ghost use Rattle.format_words.specs.Words.{formattable, format_words, readable, told_read, fields_words};
 
-use format::FieldsRead;
+use format::SuperFields;
 use superblock::{LABEL_BYTES, UUID_BYTES};
-use types::{Refusal, Verdict};
+use types::Refusal;
 
+#[tactic(auto, unfolding(crate::specs::Words::formattable))]
 fn is_formattable(uuid: usize, room: usize) -> bool
     ensures value { result ≡ formattable uuid room }
     ensures uuid_value { result ≡ true → (uuid ≡ uuid_length) × (answer_length ≤ room) }
@@ -24,11 +25,12 @@ fn uuid_of(b: &[u8]) -> [u8; UUID_BYTES]
     ensures { result ≡ b.now }
 {
     let mut uuid = [0u8; UUID_BYTES];
-    wire::put_bytes(&mut uuid[..], 0, b);
+    uuid.copy_from_slice(b);
     uuid
 }
 
 // Formats, with the answer's words.
+#[tactic(auto, unfolding(crate::specs::Words::format_words, answer_words::specs::Answers::answer_words))]
 pub fn format(
     block: u64,
     out: &mut [u8],
@@ -60,9 +62,10 @@ pub fn format(
         given,
     );
     answer_words::put_values(a, answer_words::format_values(x));
-    types::answers::format_number(x)
+    types::answers::number_of(x)
 }
 
+#[tactic(auto, unfolding(crate::specs::Words::readable))]
 fn is_readable(label: usize, uuid: usize, room: usize) -> bool
     ensures value { result ≡ readable label uuid room }
     ensures label_value { result ≡ true → (label ≡ label_length) × (uuid ≡ uuid_length) × (answer_length ≤ room) }
@@ -70,52 +73,39 @@ fn is_readable(label: usize, uuid: usize, room: usize) -> bool
     (label == LABEL_BYTES) & (uuid == UUID_BYTES) & (answer_words::ANSWER_WORDS <= room)
 }
 
-fn put_label(to: &mut [u8], label: [u8; LABEL_BYTES])
-    requires { length to.old ≡ label_length }
-    ensures { to.new ≡ label }
-{
-    wire::put_bytes(to, 0, &label[..]);
-}
-
-fn put_uuid(to: &mut [u8], uuid: [u8; UUID_BYTES])
-    requires { length to.old ≡ uuid_length }
-    ensures { to.new ≡ uuid }
-{
-    wire::put_bytes(to, 0, &uuid[..]);
-}
-
 // Puts what was read into the memory for it, and gives the answer's number.
-fn tell_read(read: FieldsRead, label: &mut [u8], uuid: &mut [u8], a: &mut [u64]) -> u64
+#[tactic(auto, unfolding(answer_words::specs::Answers::answer_words))]
+fn tell_read(
+    read: Result<SuperFields, Refusal>,
+    label: &mut [u8],
+    uuid: &mut [u8],
+    a: &mut [u64],
+) -> u64
     requires { (length label.old ≡ label_length) × (length uuid.old ≡ uuid_length) × (answer_length ≤ length a.old) }
-    ensures { told_read read.check read.fields label.old uuid.old a.old ≡ record { number = result; label = label.new; uuid = uuid.new; answer = a.new } }
+    ensures { told_read read label.old uuid.old a.old ≡ record { number = result; label = label.new; uuid = uuid.new; answer = a.new } }
 {
-    let found = read.check;
-    match found {
-        Verdict::Refused(x) => {
+    match read {
+        Err(x) => {
             answer_words::put_values(a, answer_words::refusal_values(x));
             types::answers::refusal_number(x)
         }
-        Verdict::Passed => {
-            let fields = read.fields;
-            let name = fields.label;
-            let id = fields.uuid;
-            put_label(label, name);
-            put_uuid(uuid, id);
-            answer_words::put_values(
-                a,
-                answer_words::four_values(
-                    fields.features,
-                    fields.owner as u64,
-                    fields.group as u64,
-                    fields.mode as u64,
-                ),
-            );
+        Ok(fields) => {
+            label.copy_from_slice(&fields.label);
+            uuid.copy_from_slice(&fields.uuid);
+            let numbers = [
+                fields.features,
+                fields.owner as u64,
+                fields.group as u64,
+                fields.mode as u64,
+            ];
+            answer_words::put_values(a, answer_words::of_values(numbers));
             0
         }
     }
 }
 
 // Reads the values of a super block into the memory for them, with the answer's words.
+#[tactic(auto, unfolding(crate::specs::Words::fields_words))]
 pub fn super_fields(b: &[u8], label: &mut [u8], uuid: &mut [u8], a: &mut [u64]) -> u64
     ensures { fields_words b.now label.old uuid.old a.old ≡ record { number = result; label = label.new; uuid = uuid.new; answer = a.new } }
 {

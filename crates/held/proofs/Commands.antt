@@ -1,5 +1,6 @@
 -- Where a command that a call would issue lies in its file, and how long it is.
 -- Assumes nothing.
+use Rattle.std.specs.Prelude.{Ok}
 use Prim.Native.Nat.{ℕ, ◌+◌, ◌-◌, ◌≤◌}
 use native.Mathlib.Omega.{arith}
 use mathlib.Core.Path.{◌≡◌, refl, sym, ap, ◌∙◌}
@@ -11,7 +12,7 @@ use Rattle.types.specs.declared.Command.{Command}
 use Rattle.types.specs.declared.CommandKind.{CommandKind}
 use Rattle.types.specs.declared.CommandKind.TheVariants as kind
 use Rattle.types.specs.declared.Movement.TheVariants.{Advances}
-use Rattle.types.specs.declared.Answer.TheVariants.{Issue}
+use Rattle.types.specs.declared.Granted.TheVariants.{Issue}
 use Rattle.types.specs.Blocks.{bytes_of}
 use Rattle.types.specs.Commands.{movement_of, is_read}
 use Rattle.decision.specs.Decision.{file_command, read_count, answer_on}
@@ -30,7 +31,7 @@ pub record InFile (r : Row) (c : Command) : Type 0 where
 whole_file : (k : CommandKind) (r : Row) → InFile r (file_command k r)
 whole_file k r = record { low = omega arith; high = omega arith; first = λ e. omega arith; none = λ e f. refl }
 
-issued_in : (explicit : Bool) (block : ℕ) (k : FileKind) (r : Row) (j : CommandKind) (o n : ℕ) (c : Command) → answer_on explicit block k r (call_for r j o n) ≡ Issue c → InFile r c
+issued_in : (explicit : Bool) (block : ℕ) (k : FileKind) (r : Row) (j : CommandKind) (o n : ℕ) (c : Command) → answer_on explicit block k r (call_for r j o n) ≡ Ok (Issue c) → InFile r c
 issued_in explicit block k r kind.Read o n c g =
     let w = read_issued r o n c g in
     let room : o + n ≤ r.capacity = w.checked.fits in

@@ -1,8 +1,9 @@
 -- `issuable` says exactly that some call on the row as it stood before would issue the command, and leave the row.
 -- Assumes nothing.
+use Rattle.std.specs.Prelude.{Ok, Err}
 use Prim.Native.Nat.{ℕ, zero, suc, ◌+◌, ◌-◌}
 use native.Mathlib.Omega.{arith}
-use mathlib.Core.Path.{◌≡◌, refl, sym, ◌∙◌, ap}
+use mathlib.Core.Path.{◌≡◌, refl, sym, ◌∙◌, ap, subst}
 use mathlib.Core.Bool.{Bool, true, false, cond, not, ◌&&◌, ◌||◌, false≢true}
 use lib.Dec.{eqb}
 use borrow.Author.Tests.{eqb-true, eq-eqb, ne_eqb, lt-ltb, not-false}
@@ -13,16 +14,14 @@ use Rattle.types.specs.declared.Command.{Command}
 use Rattle.types.specs.declared.Call.{Call}
 use Rattle.types.specs.declared.CommandKind.{CommandKind}
 use Rattle.types.specs.declared.CommandKind.TheVariants as kind
-use Rattle.types.specs.declared.Answer.{Answer}
-use Rattle.types.specs.declared.Answer.TheVariants.{Refused, Done, Issue}
+use Rattle.types.specs.Answers.{Answer}
+use Rattle.types.specs.declared.Granted.TheVariants.{Done, Issue}
 use Rattle.types.specs.declared.Outstanding.{Outstanding}
 use Rattle.types.specs.Blocks.{bytes_of}
 use Rattle.types.specs.Codes.{command_code, command_from}
 use Rattle.types.proofs.CodeLaws.{command_back}
 use Rattle.types.specs.declared.Refusal.TheVariants.{NotOpen}
-use Rattle.types.specs.declared.Verdict.{Verdict}
-use Rattle.types.specs.declared.Verdict.TheVariants.{Passed}
-use Rattle.types.specs.declared.Verdict.TheVariants as verdict
+use Rattle.types.specs.Answers.{Verdict}
 use Rattle.types.specs.Verdicts.{refuse, answer_after}
 use Rattle.types.specs.Predicates.{is_conventional, is_write}
 use Rattle.types.proofs.Tests.{both, and_left, and_right}
@@ -30,7 +29,7 @@ use Rattle.table.specs.Rows.{with_outstanding, with_opens}
 use Rattle.account.specs.Account.{is_open}
 use Rattle.checks.specs.Checks.{openable}
 use Rattle.decision.specs.Decision.{bad_target, command_of, file_command, read_count, read_checks, read_row, write_checks, write_row, truncate_row, flush_row, at_once, opening, open_checks, open_row, closing, close_row, answer_on, opens_after, called}
-use Rattle.decision.proofs.Laws.{read_issued, read-issues, write_issued, truncate_issued, flush_issued, open_issued, close_issued}
+use Rattle.decision.proofs.Laws.{commanded, read_issued, read-issues, write_issued, truncate_issued, flush_issued, open_issued, close_issued}
 use Rattle.held.specs.Held.{same_command, issues, call_for, reissue, stood_before, issuable}
 
 -- AN ANSWER ISSUES A COMMAND exactly where it is that command.
@@ -38,7 +37,7 @@ use Rattle.held.specs.Held.{same_command, issues, call_for, reissue, stood_befor
 same_refl : (c : Command) → same_command c c ≡ true
 same_refl c = simp (eq-eqb (command_code c.kind) _ refl, eq-eqb c.address _ refl, eq-eqb c.length _ refl)
 
-issues_it : (a : Answer) (c : Command) → a ≡ Issue c → issues a c ≡ true
+issues_it : (a : Answer) (c : Command) → a ≡ Ok (Issue c) → issues a c ≡ true
 issues_it a c e = rw e (same_refl c)
 
 made : CommandKind → ℕ → ℕ → Command
@@ -57,10 +56,10 @@ same-eq a b h =
     let e : a.kind ≡ b.kind = sym (command_back a.kind) ∙ ap command_from (eqb-true _ (command_code b.kind) k) ∙ command_back b.kind in
     same_parts a.kind b.kind a.address b.address a.length b.length e (eqb-true _ b.address s) (eqb-true _ b.length t)
 
-answer_issues : (a : Answer) (c : Command) → issues a c ≡ true → a ≡ Issue c
-answer_issues (Refused x) c h = absurd (false≢true h)
-answer_issues (Done n) c h = absurd (false≢true h)
-answer_issues (Issue x) c h = ap Issue (same-eq x c h)
+answer_issues : (a : Answer) (c : Command) → issues a c ≡ true → a ≡ Ok (Issue c)
+answer_issues (Err x) c h = absurd (false≢true h)
+answer_issues (Ok (Done n)) c h = absurd (false≢true h)
+answer_issues (Ok (Issue x)) c h = commanded (same-eq x c h)
 
 module _ (explicit : Bool) (block : ℕ) (k : FileKind) (r : Row) where
   -- AN ISSUABLE COMMAND is the answer of a call on its row as it stood before, which has opens only with write access.
@@ -71,7 +70,7 @@ module _ (explicit : Bool) (block : ℕ) (k : FileKind) (r : Row) where
   abbrev left : Command → Bool
   left c = eqb (opens_after k (reissue r c) (stood_before r c).opens) r.opens
 
-  pub issuable_call : (c : Command) → issuable explicit block k r c ≡ true → answer_on explicit block k (stood_before r c) (reissue r c) ≡ Issue c
+  pub issuable_call : (c : Command) → issuable explicit block k r c ≡ true → answer_on explicit block k (stood_before r c) (reissue r c) ≡ Ok (Issue c)
   unfolding issuable
   issuable_call c h = answer_issues (answer_on explicit block k (stood_before r c) (reissue r c)) c (and_left (again c) (left c) (and_left _ (openable (stood_before r c)) h))
 
@@ -86,7 +85,7 @@ module _ (explicit : Bool) (block : ℕ) (k : FileKind) (r : Row) where
 
   -- a command at an offset is issuable if the call made again issues it
   recall : (j : CommandKind) (o n : ℕ) → let c = command_of j r.start o n in
-      answer_on explicit block k (stood_before r c) (call_for r j o n) ≡ Issue c → opens_after k (call_for r j o n) (stood_before r c).opens ≡ r.opens
+      answer_on explicit block k (stood_before r c) (call_for r j o n) ≡ Ok (Issue c) → opens_after k (call_for r j o n) (stood_before r c).opens ≡ r.opens
       → openable (stood_before r c) ≡ true → issuable explicit block k r c ≡ true
   unfolding issuable
   recall j o n h after sure =
@@ -96,7 +95,7 @@ module _ (explicit : Bool) (block : ℕ) (k : FileKind) (r : Row) where
 
 -- A COMMAND THAT A CALL ISSUES is issuable, on the row that the call leaves.
 module _ (explicit : Bool) (block : ℕ) (k : FileKind) (r : Row) (sure : openable r ≡ true) where
-  read-complete : (o l : ℕ) (c : Command) → read_row r o l ≡ Issue c → issuable explicit block k r c ≡ true
+  read-complete : (o l : ℕ) (c : Command) → read_row r o l ≡ Ok (Issue c) → issuable explicit block k r c ≡ true
   read-complete o l c g =
       let w = read_issued r o l c g in
       let n : ℕ = read_count r.size o l in
@@ -111,36 +110,36 @@ module _ (explicit : Bool) (block : ℕ) (k : FileKind) (r : Row) (sure : openab
       }))
       refl sure)
 
-  write-complete : (o l : ℕ) (c : Command) → write_row explicit block k r o l ≡ Issue c → issuable explicit block k r c ≡ true
+  write-complete : (o l : ℕ) (c : Command) → write_row explicit block k r o l ≡ Ok (Issue c) → issuable explicit block k r c ≡ true
   write-complete o l c g =
       let w = write_issued explicit block k r o l c g in
-      rw (← w.command) (recall explicit block k r kind.Write o l (g ∙ ap Issue (sym w.command)) refl sure)
+      rw (← w.command) (recall explicit block k r kind.Write o l (g ∙ commanded (sym w.command)) refl sure)
 
-  flush-complete : (c : Command) → flush_row r ≡ Issue c → issuable explicit block k r c ≡ true
+  flush-complete : (c : Command) → flush_row r ≡ Ok (Issue c) → issuable explicit block k r c ≡ true
   flush-complete c g =
       let w = flush_issued r c g in
-      rw (← w.command) (recall explicit block k r kind.Flush 0 0 (g ∙ ap Issue (sym w.command)) refl sure)
+      rw (← w.command) (recall explicit block k r kind.Flush 0 0 (g ∙ commanded (sym w.command)) refl sure)
 
   -- a target that is not refused, and is not 0, is the capacity
   good_target : (k : FileKind) (c t : ℕ) → bad_target k c t ≡ false → eqb t 0 ≡ false → t ≡ c
   good_target Conventional c t h e = absurd (false≢true (sym h))
   good_target Sequential c t h e = eqb-true t c (rw e at (not-false (eqb t 0 || eqb t c) h))
 
-  truncate_complete : (t : ℕ) (c : Command) → truncate_row k r t ≡ Issue c → issuable explicit block k r c ≡ true
+  truncate_complete : (t : ℕ) (c : Command) → truncate_row k r t ≡ Ok (Issue c) → issuable explicit block k r c ≡ true
   truncate_complete t c g =
       let w = truncate_issued k r t c g in
       by (eqb t 0) refl w.good w.command
     where
       by : (z : Bool) → eqb t 0 ≡ z → bad_target k r.capacity t ≡ false → file_command (cond z kind.Reset kind.Finish) r ≡ c
           → issuable explicit block k r c ≡ true
-      by true e b w = rw (← w) (recall explicit block k r kind.Reset 0 0 (rw (eqb-true t 0 e) at g ∙ ap Issue (sym w)) refl sure)
-      by false e b w = rw (← w) (recall explicit block k r kind.Finish 0 0 (rw (good_target k r.capacity t b e) at g ∙ ap Issue (sym w)) refl sure)
+      by true e b w = rw (← w) (recall explicit block k r kind.Reset 0 0 (rw (eqb-true t 0 e) at g ∙ commanded (sym w)) refl sure)
+      by false e b w = rw (← w) (recall explicit block k r kind.Finish 0 0 (rw (good_target k r.capacity t b e) at g ∙ commanded (sym w)) refl sure)
 
 -- a row with other opens, one more and one less of them
 more_less : (r : Row) (n : ℕ) → with_opens r (n + 1 - 1) ≡ with_opens r n
 more_less r n = let e : n + 1 - 1 ≡ n = omega arith in rw e
 
-open_complete : (explicit : Bool) (block : ℕ) (k : FileKind) (r : Row) (c : Command) → openable r ≡ true → open_row explicit k r ≡ Issue c
+open_complete : (explicit : Bool) (block : ℕ) (k : FileKind) (r : Row) (c : Command) → openable r ≡ true → open_row explicit k r ≡ Ok (Issue c)
     → issuable explicit block k (called k Call.Open r) c ≡ true
 open_complete explicit block Conventional r c sure g = absurd (false≢true (sym (ap is_conventional (open_issued explicit Conventional r c g).sequential)))
 open_complete explicit block Sequential r c sure g =
@@ -148,11 +147,11 @@ open_complete explicit block Sequential r c sure g =
     let before : with_opens r (r.opens + 1 - 1) ≡ r = more_less r r.opens in
     rw (← w.command)
     (recall explicit block Sequential (called Sequential Call.Open r) kind.Open 0 0
-    (ap (λ (b : Row). open_row explicit Sequential b) before ∙ g ∙ ap Issue (sym w.command))
+    (ap (λ (b : Row). open_row explicit Sequential b) before ∙ g ∙ commanded (sym w.command))
     (ap (λ (b : Row). b.opens + 1) before)
     (ap (λ (b : Row). openable b) before ∙ sure))
 
-close_complete : (explicit : Bool) (block : ℕ) (k : FileKind) (r : Row) (c : Command) → openable r ≡ true → close_row explicit k r ≡ Issue c
+close_complete : (explicit : Bool) (block : ℕ) (k : FileKind) (r : Row) (c : Command) → openable r ≡ true → close_row explicit k r ≡ Ok (Issue c)
     → issuable explicit block k (called k Call.Close r) c ≡ true
 close_complete explicit block Conventional r c sure g = absurd (false≢true (sym (ap is_conventional (close_issued explicit Conventional r c g).sequential)))
 close_complete explicit block Sequential r c sure g =
@@ -161,11 +160,11 @@ close_complete explicit block Sequential r c sure g =
     let before : with_opens r (r.opens - 1 + 1) ≡ r = rw e in
     rw (← w.command)
     (recall explicit block Sequential (called Sequential Call.Close r) kind.Close 0 0
-    (ap (λ (b : Row). close_row explicit Sequential b) before ∙ g ∙ ap Issue (sym w.command))
+    (ap (λ (b : Row). close_row explicit Sequential b) before ∙ g ∙ commanded (sym w.command))
     (ap (λ (b : Row). b.opens - 1) before)
     (ap (λ (b : Row). openable b) before ∙ sure))
 
-pub issuable-complete : (explicit : Bool) (block : ℕ) (k : FileKind) (r : Row) (x : Call) (c : Command) → openable r ≡ true → answer_on explicit block k r x ≡ Issue c
+pub issuable-complete : (explicit : Bool) (block : ℕ) (k : FileKind) (r : Row) (x : Call) (c : Command) → openable r ≡ true → answer_on explicit block k r x ≡ Ok (Issue c)
     → issuable explicit block k (called k x r) c ≡ true
 issuable-complete explicit block k r (Call.Read o l) c sure g = read-complete explicit block k r sure o l c g
 issuable-complete explicit block k r (Call.Write o l) c sure g = write-complete explicit block k r sure o l c g
@@ -233,10 +232,10 @@ module _ (explicit : Bool) (block : ℕ) (k : FileKind) (r : Row) where
   plain true n e = rw (eq-eqb n n refl, e)
   plain false n e = refl
 
-  no_issue : (v : Verdict) (c : Command) → issues (answer_after v (Done 0)) c ≡ false
+  no_issue : (v : Verdict) (c : Command) → issues (answer_after v (Ok (Done 0))) c ≡ false
   unfolding answer_after
-  no_issue Passed c = refl
-  no_issue (verdict.Refused y) c = refl
+  no_issue (Ok tt) c = refl
+  no_issue (Err y) c = refl
 
   -- nor is anything of a conventional file
   unopened_none : (b : Row) (c : Command) → issues (open_row explicit Conventional b) c ≡ false
@@ -266,7 +265,7 @@ module _ (explicit : Bool) (block : ℕ) (k : FileKind) (r : Row) where
       further : eqb (suc (suc n)) 1 ≡ false
       further = ne_eqb (suc (suc n)) 1 (λ q. omega arith)
 
-      by : (e : Bool) → issues (answer_after (refuse (not (is_open (with_opens r (suc (suc n))))) NotOpen Passed) (closing e (with_opens r (suc (suc n))))) c ≡ false
+      by : (e : Bool) → issues (answer_after (refuse (not (is_open (with_opens r (suc (suc n))))) NotOpen (Ok tt)) (closing e (with_opens r (suc (suc n))))) c ≡ false
       by true = rw further (no_issue _ c)
       by false = no_issue _ c
 
@@ -305,7 +304,7 @@ module _ (explicit : Bool) (block : ℕ) (k : FileKind) (r : Row) where
       let f : eqb (suc n) 0 ≡ false = ne_eqb (suc n) 0 (λ q. omega arith) in
       rw (e, f, not_last n c) (without (issues (close_row explicit Sequential (with_opens r 1)) c) (is_write r.access))
 
-  pub by_kind : openable r ≡ true → (j : CommandKind) (a l : ℕ) → let c : Command = record { kind = j; address = a; length = l } in again_by j c ≡ issuable explicit block k r c
+  by_kind : openable r ≡ true → (j : CommandKind) (a l : ℕ) → let c : Command = record { kind = j; address = a; length = l } in again_by j c ≡ issuable explicit block k r c
   unfolding issuable
   by_kind sure kind.Read a l = plain _ r.opens sure
   by_kind sure kind.Write a l = plain _ r.opens sure
@@ -314,3 +313,7 @@ module _ (explicit : Bool) (block : ℕ) (k : FileKind) (r : Row) where
   by_kind sure kind.Flush a l = plain _ r.opens sure
   by_kind sure kind.Open a l = open_again k r.opens _
   by_kind sure kind.Close a l = close_again k r.opens _
+
+  -- of a command whose kind is known
+  pub again_of : (c : Command) (j : CommandKind) → c.kind ≡ j → openable r ≡ true → again_by j c ≡ issuable explicit block k r c
+  again_of c j e sure = subst (λ (i : CommandKind). again_by i c ≡ issuable explicit block k r c) e (by_kind sure c.kind c.address c.length)

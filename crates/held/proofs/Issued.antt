@@ -1,5 +1,6 @@
 -- What a command tells of its row: that a call on the row issues it.
 -- Assumes nothing.
+use Rattle.std.specs.Prelude.{Ok}
 use mathlib.Core.Bool.{Bool, true, false, not, cond, ◌&&◌, false≢true}
 use mathlib.Core.Path.{◌≡◌, refl, sym, ap, ◌∙◌, subst}
 use Prim.Native.Nat.{ℕ, ◌+◌, ◌%◌, ◌≤◌, ◌<◌}
@@ -16,7 +17,7 @@ use Rattle.types.specs.declared.Movement.TheVariants.{Stays, Advances}
 use Rattle.types.specs.declared.FileKind.{FileKind}
 use Rattle.types.specs.declared.FileKind.TheVariants.{Conventional, Sequential}
 use Rattle.types.specs.declared.Access.{Access}
-use Rattle.types.specs.declared.Answer.TheVariants.{Issue}
+use Rattle.types.specs.declared.Granted.TheVariants.{Issue}
 use Rattle.types.specs.Blocks.{bytes_of, on_block}
 use Rattle.types.specs.Commands.{movement_of}
 use Rattle.types.specs.Predicates.{is_none, is_write}
@@ -77,7 +78,7 @@ no_target Sequential c t e f = let x : ◌≡◌ {A = ℕ} 0 1 = cc in omega ari
 abbrev movement_in : Command → Movement
 movement_in c = movement_of c.kind
 
-issued_tells : (explicit : Bool) (block : ℕ) (k : FileKind) (r : Row) (x : Call) (c : Command) → openable r ≡ true → InFile r c → answer_on explicit block k r x ≡ Issue c → Issued block k r c
+issued_tells : (explicit : Bool) (block : ℕ) (k : FileKind) (r : Row) (x : Call) (c : Command) → openable r ≡ true → InFile r c → answer_on explicit block k r x ≡ Ok (Issue c) → Issued block k r c
 issued_tells explicit block k r (Call.Read o n) c sure at g =
     let w = read_issued r o n c g in
     let still = ap movement_in w.command in

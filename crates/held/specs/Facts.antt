@@ -1,5 +1,5 @@
 -- What the checks tell of a completion's command once they are passed. No outcome is defined here.
-use Rattle.std.specs.Prelude.{ℕ, ◌+◌, ◌/◌, ◌<◌, ◌≤◌, ◌^◌, ◌≡◌, true, List}
+use Rattle.std.specs.Prelude.{ℕ, ◌+◌, ◌/◌, ◌<◌, ◌≤◌, ◌^◌, ◌≡◌, true, List, Ok, Err}
 use Rattle.types.specs.declared.Mount.{Mount}
 use Rattle.types.specs.declared.Row.{Row}
 use Rattle.types.specs.declared.Held.{Held}
@@ -8,8 +8,7 @@ use Rattle.types.specs.declared.Outstanding.TheVariants.{Busy}
 use Rattle.types.specs.Blocks.{sector_bytes, good_block}
 use Rattle.account.specs.Facts.{Room}
 use Rattle.checks.specs.Facts.{Reached}
-use Rattle.held.specs.declared.Pending.{Pending}
-use Rattle.held.specs.declared.Pending.TheVariants.{On, Refused}
+use Rattle.held.specs.Held.{Pending}
 use Rattle.held.specs.Held.{issuable_on}
 
 -- a completion is about this command and this row
@@ -20,8 +19,8 @@ pub record Ready (m : Mount) (cnv seq : List ℕ) (h : Held) (r : Row) : Type 0 
 
 -- it is that of the named file
 abbrev pub PendingTells : Mount → List ℕ → List ℕ → FileKind → ℕ → Pending → Type 0
-PendingTells m cnv seq k i (On h r) = Ready m cnv seq h r × ((h.kind ≡ k) × (h.number ≡ i))
-PendingTells m cnv seq k i (Refused x) = Unit
+PendingTells m cnv seq k i (Ok (h, r)) = Ready m cnv seq h r × ((h.kind ≡ k) × (h.number ≡ i))
+PendingTells m cnv seq k i (Err x) = Unit
 
 -- then no sum on the row wraps
 pub record Safe (m : Mount) (h : Held) (r : Row) : Type 0 where
@@ -31,5 +30,5 @@ pub record Safe (m : Mount) (h : Held) (r : Row) : Type 0 where
   pub grows : r.size + h.command.length < 2 ^ 64
 
 abbrev pub PendingSafe : Mount → Pending → Type 0
-PendingSafe m (On h r) = Safe m h r
-PendingSafe m (Refused x) = Unit
+PendingSafe m (Ok (h, r)) = Safe m h r
+PendingSafe m (Err x) = Unit

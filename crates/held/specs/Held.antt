@@ -1,29 +1,30 @@
 -- The held command of a completion. 02: "Completions check 10 (counts), 1, 8, 10 (row), 9." Here all but 9.
-use Rattle.std.specs.Prelude.{ℕ, ◌+◌, ◌-◌, List, Bool, false, cond, ◌&&◌, length, eqb}
+use Rattle.std.specs.Prelude.{ℕ, ◌+◌, ◌-◌, List, Bool, false, cond, ◌&&◌, length, eqb, Result, Ok, Err, Some, None}
 use Rattle.types.specs.declared.Mount.{Mount}
 use Rattle.types.specs.declared.Row.{Row}
 use Rattle.types.specs.declared.Held.{Held}
 use Rattle.types.specs.declared.FileKind.{FileKind}
+use Rattle.types.specs.declared.Refusal.{Refusal}
 use Rattle.types.specs.declared.Refusal.TheVariants as refusal
 use Rattle.types.specs.declared.CommandKind.{CommandKind}
 use Rattle.types.specs.declared.CommandKind.TheVariants as kind
 use Rattle.types.specs.declared.Command.{Command}
 use Rattle.types.specs.declared.Call.{Call}
-use Rattle.types.specs.declared.Answer.{Answer}
-use Rattle.types.specs.declared.Answer.TheVariants as answer
+use Rattle.types.specs.Answers.{Answer}
+use Rattle.types.specs.declared.Granted.TheVariants as granted
 use Rattle.types.specs.declared.Outstanding.{Outstanding}
 use Rattle.types.specs.declared.Outstanding.TheVariants.{Idle, Busy, Unknown}
 use Rattle.types.specs.Blocks.{bytes_of}
 use Rattle.types.specs.Codes.{command_code}
 use Rattle.table.specs.Rows.{outstanding_in, with_opens}
-use Rattle.checks.specs.declared.Lookup.{Lookup}
-use Rattle.checks.specs.declared.Lookup.TheVariants as lookup
-use Rattle.checks.specs.declared.Checked.{Checked}
-use Rattle.checks.specs.declared.Checked.TheVariants as checked
+use Rattle.checks.specs.Checks.{Lookup}
+use Rattle.checks.specs.Checks.{Checked}
 use Rattle.checks.specs.Checks.{counts_fit, lookup_of, openable, sound_slot}
 use Rattle.decision.specs.Decision.{answer_on, opens_after}
-use Rattle.held.specs.declared.Pending.{Pending}
-use Rattle.held.specs.declared.Pending.TheVariants.{On, Refused}
+
+-- what a completion is about: the held command with its row, or the refusal
+abbrev pub Pending : Type 0
+Pending = Result (Held × Row) Refusal
 
 -- ---- "a held command that no call on its file, with row and mount as they are but nothing held, would issue"
 
@@ -33,9 +34,9 @@ same_command a b =
 
 -- the answer is this command
 abbrev pub issues : Answer → Command → Bool
-issues (answer.Issue a) c = same_command a c
-issues (answer.Done count) c = false
-issues (answer.Refused x) c = false
+issues (Ok (granted.Issue a)) c = same_command a c
+issues (Ok (granted.Done count)) c = false
+issues (Err x) c = false
 
 -- the one call that can issue a command of this kind, at this offset and with this length
 abbrev pub call_for : Row → CommandKind → ℕ → ℕ → Call
@@ -79,8 +80,8 @@ issuable_on m h r = issuable m.volume.explicit m.volume.block h.kind r h.command
 
 -- 10, for the row, and then for a command that no call on it would issue
 abbrev pub held_on : Mount → Held → Checked → Pending
-held_on m h (checked.Good r) = cond (issuable_on m h r) (On h r) (Refused refusal.Impossible)
-held_on m h (checked.Refused x) = Refused refusal.Impossible
+held_on m h (Ok r) = cond (issuable_on m h r) (Ok (h, r)) (Err refusal.Impossible)
+held_on m h (Err x) = Err refusal.Impossible
 
 -- a file's held command
 abbrev pub hold_of : FileKind → ℕ → Command → Held
@@ -88,16 +89,16 @@ hold_of k i c = record { kind = k; number = i; command = c }
 
 -- 8, "completion with nothing outstanding", which is about the named file; a code that is no command's is outstanding, and then 10
 abbrev pub pending_by : Mount → FileKind → ℕ → Checked → Outstanding → Pending
-pending_by m k i file Idle = Refused refusal.NothingOutstanding
+pending_by m k i file Idle = Err refusal.NothingOutstanding
 pending_by m k i file (Busy c) = held_on m (hold_of k i c) file
-pending_by m k i file Unknown = Refused refusal.Impossible
+pending_by m k i file Unknown = Err refusal.Impossible
 
 -- 1, "no such file"
 abbrev pub pending_in : Mount → FileKind → ℕ → Lookup → Pending
-pending_in m k i (lookup.Found x) = pending_by m k i (sound_slot m k x) (outstanding_in x)
-pending_in m k i lookup.Nothing = Refused refusal.NoFile
+pending_in m k i (Some x) = pending_by m k i (sound_slot m k x) (outstanding_in x)
+pending_in m k i None = Err refusal.NoFile
 
 -- the held command of file i of a kind with its row, or the refusal
 unfoldable pub pending_of : Mount → List ℕ → List ℕ → FileKind → ℕ → Pending
 pending_of m cnv seq k i =
-    cond (counts_fit m (length cnv) (length seq)) (pending_in m k i (lookup_of m.volume cnv seq k i)) (Refused refusal.Impossible)
+    cond (counts_fit m (length cnv) (length seq)) (pending_in m k i (lookup_of m.volume cnv seq k i)) (Err refusal.Impossible)

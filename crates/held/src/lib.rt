@@ -6,38 +6,15 @@ ghost use Rattle.types.specs.Blocks.{sector_bytes, good_block, bytes_of};
 ghost use Rattle.table.specs.Rows.{outstanding_in};
 ghost use Rattle.checks.specs.Checks.{openable, sound_slot};
 ghost use Rattle.checks.specs.Facts.{Ends, Openable};
-ghost use Rattle.held.specs.Held.{same_command, issues, issuable, held_on, pending_by, pending_of};
+ghost use Rattle.held.specs.Held.{issues, issuable, held_on, pending_by, pending_of};
 ghost use Rattle.held.specs.Facts.{PendingTells};
 
-use checks::{Checked, Lookup};
-use table::Slot;
-use types::{Answer, Command, CommandKind, FileKind, Held, Mount, Outstanding, Refusal, Row};
+use types::{Command, CommandKind, FileKind, Granted, Held, Mount, Outstanding, Refusal, Row};
 
-// What a completion is about: the held command with its row, or the refusal.
-#[derive(Clone, Copy)]
-pub enum Pending {
-    On(Held, Row),
-    Refused(Refusal),
-}
-
-fn same_command(a: Command, b: Command) -> bool
-    ensures { result ≡ same_command a b }
-{
-    let this = a.kind;
-    let that = b.kind;
-    (types::codes::command_code(this) == types::codes::command_code(that))
-        & (a.address == b.address)
-        & (a.length == b.length)
-}
-
-fn issues_it(a: Answer, c: Command) -> bool
+fn issues_it(a: Result<Granted, Refusal>, c: Command) -> bool
     ensures { result ≡ issues a c }
 {
-    match a {
-        Answer::Issue(issued) => same_command(issued, c),
-        Answer::Done(_) => false,
-        Answer::Refused(_) => false,
-    }
+    matches!(a, Ok(Granted::Issue(issued)) if issued == c)
 }
 
 // How far an address lies past the start of its file, 0 where it doesn't.
@@ -45,8 +22,7 @@ fn offset_from(start: u64, address: u64) -> u64
     requires { start ≤ 2 ^ 40 }
     ensures { result ≡ address - bytes_of start }
 {
-    let first = types::units::bytes_of(start);
-    if first <= address { address - first } else { 0 }
+    address.saturating_sub(types::units::bytes_of(start))
 }
 
 // Whether some call on this row would issue the command: the one that would have is made again, on the row as it stood before. Only a first open and a
@@ -56,9 +32,8 @@ fn is_issuable(explicit: bool, block: u64, kind: FileKind, row: Row, c: Command)
     requires { (good_block block ≡ true) × ((row.start + row.capacity / sector_bytes ≤ 2 ^ 40) × (openable row ≡ true)) }
     ensures { result ≡ issuable explicit block kind row c }
 {
-    let command = c.kind;
     let offset = offset_from(row.start, c.address);
-    match command {
+    match c.kind {
         CommandKind::Read => issues_it(decision::read_row(row, offset, c.length), c),
         CommandKind::Write => {
             let again = decision::write_row(explicit, block, kind, row, offset, c.length);
@@ -73,67 +48,80 @@ fn is_issuable(explicit: bool, block: u64, kind: FileKind, row: Row, c: Command)
         }
         CommandKind::Close => {
             let again = decision::close_row(explicit, kind, table::with_opens(row, 1));
-            let a = row.access;
-            issues_it(again, c) & (row.opens == 0) & types::predicates::is_write(a)
+            issues_it(again, c) & (row.opens == 0) & types::predicates::is_write(row.access)
         }
     }
 }
 
-fn held_on(m: Mount, h: Held, file: Checked) -> Pending
+fn held_on(m: Mount, h: Held, file: Result<Row, Refusal>) -> Result<(Held, Row), Refusal>
     requires { (good_block m.volume.block ≡ true) × (Ends file × Openable file) }
     ensures { result ≡ held_on m h file }
 {
-    let kind = h.kind;
-    let command = h.command;
-    let v = m.volume;
-    match file {
-        Checked::Good(row) => {
-            if is_issuable(v.explicit, v.block, kind, row, command) {
-                Pending::On(h, row)
-            } else {
-                Pending::Refused(Refusal::Impossible)
-            }
-        }
-        Checked::Refused(_) => Pending::Refused(Refusal::Impossible),
+    let Ok(row) = file else {
+        return Err(Refusal::Impossible);
+    };
+    if is_issuable(m.volume.explicit, m.volume.block, h.kind, row, h.command) {
+        Ok((h, row))
+    } else {
+        Err(Refusal::Impossible)
     }
 }
 
 // Checks 8 and 10 of a file that was found: its row as its words say.
-fn slot_pending(m: Mount, kind: FileKind, number: u32, slot: Slot) -> Pending
+#[tactic(auto, using(checks::proofs::Laws::slot_counted))]
+fn slot_pending(
+    m: Mount,
+    kind: FileKind,
+    number: u32,
+    slot: Result<Row, Outstanding>,
+) -> Result<(Held, Row), Refusal>
     requires { good_block m.volume.block ≡ true }
     ensures { result ≡ pending_by m kind number (sound_slot m kind slot) (outstanding_in slot) }
 {
-    let v = m.volume;
     match table::outstanding_in(slot) {
-        Outstanding::Idle => Pending::Refused(Refusal::NothingOutstanding),
+        Outstanding::Idle => Err(Refusal::NothingOutstanding),
         Outstanding::Busy(command) => {
             let h = Held {
                 kind,
                 number,
                 command,
             };
-            let ruled = checks::ruled_slot(v.block, kind, slot);
+            let ruled = checks::ruled_slot(m.volume.block, kind, slot);
             held_on(m, h, checks::counted_file(m, kind, ruled))
         }
-        Outstanding::Unknown => Pending::Refused(Refusal::Impossible),
+        Outstanding::Unknown => Err(Refusal::Impossible),
     }
 }
 
 // Checks 10 of the counts, 1, 8, and 10 of the row. One row is read.
-fn check_pending(m: Mount, cnv: &[u64], seq: &[u64], kind: FileKind, number: u32) -> Pending
+#[tactic(auto, unfolding(crate::specs::Held::pending_of))]
+fn check_pending(
+    m: Mount,
+    cnv: &[u64],
+    seq: &[u64],
+    kind: FileKind,
+    number: u32,
+) -> Result<(Held, Row), Refusal>
     ensures { result ≡ pending_of m cnv.now seq.now kind number }
 {
     if !checks::counts_fit(m, cnv.len(), seq.len()) {
-        return Pending::Refused(Refusal::Impossible);
+        return Err(Refusal::Impossible);
     }
-    let Lookup::Found(slot) = checks::lookup_of(m, cnv, seq, kind, number) else {
-        return Pending::Refused(Refusal::NoFile);
+    let Some(slot) = checks::lookup_of(m, cnv, seq, kind, number) else {
+        return Err(Refusal::NoFile);
     };
     slot_pending(m, kind, number, slot)
 }
 
 // What the checks tell goes with their answer.
-pub fn find_pending(m: Mount, cnv: &[u64], seq: &[u64], kind: FileKind, number: u32) -> Pending
+#[tactic(auto, using(crate::proofs::Laws::pending_tells))]
+pub fn find_pending(
+    m: Mount,
+    cnv: &[u64],
+    seq: &[u64],
+    kind: FileKind,
+    number: u32,
+) -> Result<(Held, Row), Refusal>
     ensures value { result ≡ pending_of m cnv.now seq.now kind number }
     ensures pending_tells { PendingTells m cnv.now seq.now kind number result }
 {

@@ -1,5 +1,6 @@
 -- What has been taken of a report stays bounded: no sum of its numbers wraps, however the report goes on.
 -- Assumes nothing.
+use Rattle.std.specs.Prelude.{Ok}
 use Prim.Native.Nat.{ℕ, ◌≤◌}
 use native.Mathlib.Omega.{arith}
 use mathlib.Core.Path.{◌≡◌, refl}
@@ -12,7 +13,6 @@ use Rattle.types.specs.Blocks.{most_zones}
 use Rattle.types.specs.Codes.{flag_code}
 use Rattle.types.specs.declared.Refusal.{Refusal}
 use Rattle.types.specs.declared.Refusal.TheVariants.{BadReport}
-use Rattle.types.specs.declared.Verdict.TheVariants.{Passed}
 use Rattle.types.proofs.Tests.{cases, and_left, and_right}
 use Rattle.table.specs.Rows.{rows_lent}
 use Rattle.account.specs.Account.{is_active}
@@ -57,12 +57,12 @@ header_bounded i h none b =
     (λ bad. rw bad (refused_bounded i BadReport b))
 
 -- where it isn't refused, it counts some zones
-pub header-counts : (i : Intake) (h : List ℕ) → (header_taken i h).check ≡ Passed → 1 ≤ (header_taken i h).count
+pub header-counts : (i : Intake) (h : List ℕ) → (header_taken i h).check ≡ Ok tt → 1 ≤ (header_taken i h).count
 unfolding header_taken
 header-counts i h passed = by (good_fields h) refl passed
   where
     by : (t : Bool) → good_fields h ≡ t
-        → (cond t (record { check = i.check; count = zone_count h; given = capacity_given h; walk = i.walk; active = i.active }) (refused_with i BadReport)).check ≡ Passed
+        → (cond t (record { check = i.check; count = zone_count h; given = capacity_given h; walk = i.walk; active = i.active }) (refused_with i BadReport)).check ≡ Ok tt
         → 1 ≤ (cond t (record { check = i.check; count = zone_count h; given = capacity_given h; walk = i.walk; active = i.active }) (refused_with i BadReport)).count
     by true good p = (fields_told h good).0
     by false bad p = let z : ◌≡◌ {A = ℕ} 0 1 = cc in absurd (omega arith)

@@ -1,10 +1,9 @@
 -- 02, K4: "let the report arrive in pieces cut anywhere". What its header does when it is there, and what each of its zones does: what is
 -- checked, and which rows are stored. A zone goes by the walk of `files`.
-use Rattle.std.specs.Prelude.{ℕ, ◌+◌, List, Bool, false, cond, not, ◌&&◌, ◌||◌, length, eqb, leb, ltb}
+use Rattle.std.specs.Prelude.{ℕ, ◌+◌, List, Bool, false, cond, not, ◌&&◌, ◌||◌, length, eqb, leb, ltb, Ok, Err}
 use Rattle.types.specs.Codes.{flag_code}
 use Rattle.types.specs.declared.Refusal.{Refusal}
 use Rattle.types.specs.declared.Refusal.TheVariants.{BadReport, BadZone, TooFewRows}
-use Rattle.types.specs.declared.Verdict.TheVariants.{Passed, Refused}
 use Rattle.types.specs.declared.Row.{Row}
 use Rattle.table.specs.Rows.{rows_lent, set_row}
 use Rattle.account.specs.Account.{is_active}
@@ -26,11 +25,11 @@ pub record Taking : Type 0 where
 
 -- before its first byte
 abbrev pub nothing_taken : Intake
-nothing_taken = record { check = Passed; count = 0; given = false; walk = begun; active = 0 }
+nothing_taken = record { check = Ok tt; count = 0; given = false; walk = begun; active = 0 }
 
 -- with a refusal, and else as it was
 abbrev pub refused_with : Intake → Refusal → Intake
-refused_with i x = record { check = Refused x; count = i.count; given = i.given; walk = i.walk; active = i.active }
+refused_with i x = record { check = Err x; count = i.count; given = i.given; walk = i.walk; active = i.active }
 
 -- ---- the header
 
@@ -88,7 +87,7 @@ unfoldable pub filed : Rule → Taking → Zone → Taking
 filed r s z =
     record {
       intake = record {
-        check = Passed;
+        check = Ok tt;
         count = s.intake.count;
         given = s.intake.given;
         walk = stepped r.aggregate s.intake.walk z;

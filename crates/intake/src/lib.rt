@@ -10,7 +10,7 @@ ghost use Rattle.intake.specs.Steps.{nothing_taken, refused_with, header_taken, 
 ghost use Rattle.intake.specs.Facts.{Ready};
 
 use files::{Run, Walk};
-use types::{Refusal, Verdict};
+use types::Refusal;
 use zones::Zone;
 
 // By what a report's zones are taken: the block in sectors, whether neighbouring conventional zones are one file, and whether files are opened by hand.
@@ -23,9 +23,10 @@ pub struct Rule {
 
 // What has been taken of a report: what its checks have found, how many zones its header counts (0 before the header is there) and whether it gives
 // capacities, the walk over its zones, and how many files are active.
+// What was found and what was taken stay beside each other: after a refusal C keeps the words of both (`taken_words` of the specs).
 #[derive(Clone, Copy)]
 pub struct Intake {
-    pub check: Verdict,
+    pub check: Result<(), Refusal>,
     pub count: usize,
     pub given: bool,
     pub walk: Walk,
@@ -38,7 +39,7 @@ pub fn nothing_taken() -> Intake
 {
     let walk = files::begin();
     Intake {
-        check: Verdict::Passed,
+        check: Ok(()),
         count: 0,
         given: false,
         walk,
@@ -71,32 +72,24 @@ fn same_walk(walk: Walk) -> Walk
 pub fn refused_with(intake: Intake, x: Refusal) -> Intake
     ensures { result ≡ refused_with intake x }
 {
-    let walk = same_walk(intake.walk);
     Intake {
-        check: Verdict::Refused(x),
-        count: intake.count,
-        given: intake.given,
-        walk,
-        active: intake.active,
+        check: Err(x),
+        walk: same_walk(intake.walk),
+        ..intake
     }
 }
 
 // Takes the header that these bytes begin with.
+#[tactic(auto, unfolding(crate::specs::Steps::header_taken))]
 pub fn take_header(intake: Intake, h: &[u8]) -> Intake
     requires { header_bytes ≤ length h.now }
     ensures { result ≡ header_taken intake h.now }
 {
     if report::good_fields(h) {
-        let check = intake.check;
-        let walk = intake.walk;
-        let count = report::zone_count(h);
-        let given = report::capacity_given(h);
         Intake {
-            check,
-            count,
-            given,
-            walk,
-            active: intake.active,
+            count: report::zone_count(h),
+            given: report::capacity_given(h),
+            ..intake
         }
     } else {
         refused_with(intake, Refusal::BadReport)
@@ -137,6 +130,7 @@ fn lacks(asked: bool, i: usize, rows: usize) -> bool
 }
 
 // A good zone finds no row, where its walk leads to `after`.
+#[tactic(auto, unfolding(crate::specs::Steps::no_row))]
 fn no_row(
     aggregate: bool,
     count: usize,
@@ -216,15 +210,15 @@ fn file_zone(
     let more = types::codes::flag_code(active_file(rule.explicit, walk, z));
     let active = intake.active + more as u32;
     Intake {
-        check: Verdict::Passed,
-        count: intake.count,
-        given: intake.given,
+        check: Ok(()),
         walk: after,
         active,
+        ..intake
     }
 }
 
 // Takes a good zone. The run that it finishes is stored also where the zone itself finds no row.
+#[tactic(auto, unfolding(crate::specs::Steps::good_taken))]
 fn take_good(rule: Rule, intake: Intake, z: Zone, cnv: &mut [u64], seq: &mut [u64]) -> Intake
     requires { Ready intake × Bounded z × (z.start ≡ intake.walk.expected) }
     ensures { good_taken rule (record { intake = intake; cnv = cnv.old; seq = seq.old }) z ≡ record { intake = result; cnv = cnv.new; seq = seq.new } }
@@ -261,7 +255,6 @@ pub fn take_zone(rule: Rule, intake: Intake, z: Zone, cnv: &mut [u64], seq: &mut
     if zones::is_faultless(fault) {
         take_good(rule, intake, z, cnv, seq)
     } else {
-        let number = walk.number as u32;
-        refused_with(intake, Refusal::BadZone(number, fault))
+        refused_with(intake, Refusal::BadZone(walk.number as u32, fault))
     }
 }

@@ -3,7 +3,8 @@
 use Rattle.std.specs.Prelude.{ℕ, List}
 use Rattle.types.specs.declared.Account.{Account}
 use Rattle.types.specs.declared.Mount.{Mount}
-use Rattle.types.specs.declared.Answer.{Answer}
+use Rattle.types.specs.Answers.{Answer}
+use Rattle.types.specs.declared.Call.{Call}
 use Rattle.types.specs.declared.Call.TheVariants as call
 use Rattle.completion.specs.Completions.{Completion, completion_of}
 use Rattle.engine.specs.Engine.{State, Input, Step, step}
@@ -19,12 +20,15 @@ mount_with a x = record { volume = x.volume; readonly = x.readonly; account = a 
 abbrev pub state_with : Account → List ℕ → List ℕ → Asked → State
 state_with a cnv seq x = record { mount = mount_with a x; cnv = cnv; seq = seq }
 
--- an open, a close, and the two completions of what is outstanding on the file
+-- a call, an open and a close among them, and the two completions of what is outstanding on the file
+abbrev pub called : Account → List ℕ → List ℕ → Asked → Call → Step
+called a cnv seq x c = step (state_with a cnv seq x) (Input.call x.kind x.number c)
+
 abbrev pub opened : Account → List ℕ → List ℕ → Asked → Step
-opened a cnv seq x = step (state_with a cnv seq x) (Input.call x.kind x.number call.Open)
+opened a cnv seq x = called a cnv seq x call.Open
 
 abbrev pub closed : Account → List ℕ → List ℕ → Asked → Step
-closed a cnv seq x = step (state_with a cnv seq x) (Input.call x.kind x.number call.Close)
+closed a cnv seq x = called a cnv seq x call.Close
 
 abbrev pub completed : Account → List ℕ → List ℕ → Asked → Step
 completed a cnv seq x = step (state_with a cnv seq x) (Input.completion x.kind x.number Completion.good)

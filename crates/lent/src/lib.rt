@@ -3,9 +3,9 @@
 #![tactic(auto)]
 
 ghost use Rattle.std.specs.Prelude.{◌≡◌};
-ghost use Rattle.lent.specs.Lent.{mount_with, opened, closed, completed, failed, settled_of, settled_by};
+ghost use Rattle.lent.specs.Lent.{mount_with, called, opened, closed, completed, failed, settled_of, settled_by};
 
-use types::{Account, Answer, Call, Mount, Outcome, Volume};
+use types::{Account, Call, Granted, Mount, Outcome, Refusal, Volume};
 
 // What is asked of a mount beside its account and its tables: what it fixes, its read-only mark, and the file.
 #[derive(Clone, Copy)]
@@ -26,7 +26,7 @@ pub struct Failed {
 // What is answered, and the read-only mark afterwards.
 #[derive(Clone, Copy)]
 pub struct Reply {
-    pub answer: Answer,
+    pub answer: Result<Granted, Refusal>,
     pub readonly: bool,
 }
 
@@ -41,9 +41,8 @@ struct Settled {
 fn mount_with(account: Account, x: Asked) -> Mount
     ensures { result ≡ mount_with account x }
 {
-    let volume = x.volume;
     Mount {
-        volume,
+        volume: x.volume,
         readonly: x.readonly,
         account,
     }
@@ -53,35 +52,23 @@ fn mount_with(account: Account, x: Asked) -> Mount
 fn settle(outcome: Outcome) -> Settled
     ensures { result ≡ settled_of outcome.answer outcome.mount }
 {
-    let answer = outcome.answer;
-    let mount = outcome.mount;
-    let account = mount.account;
-    let reply = Reply {
-        answer,
-        readonly: mount.readonly,
-    };
-    Settled { reply, account }
+    Settled {
+        reply: Reply {
+            answer: outcome.answer,
+            readonly: outcome.mount.readonly,
+        },
+        account: outcome.mount.account,
+    }
 }
 
-// The account by value: each call and completion is decided here.
-fn open_settled(account: Account, cnv: &mut [u64], seq: &mut [u64], x: Asked) -> Settled
-    ensures value { result ≡ settled_by (opened account cnv.old seq.old x) }
-    ensures cnv_after { cnv.new ≡ (opened account cnv.old seq.old x).state.cnv }
-    ensures seq_after { seq.new ≡ (opened account cnv.old seq.old x).state.seq }
+// The account by value: each call and completion is decided here, an open and a close by the same function.
+fn call_settled(account: Account, cnv: &mut [u64], seq: &mut [u64], x: Asked, call: Call) -> Settled
+    ensures value { result ≡ settled_by (called account cnv.old seq.old x call) }
+    ensures cnv_after { cnv.new ≡ (called account cnv.old seq.old x call).state.cnv }
+    ensures seq_after { seq.new ≡ (called account cnv.old seq.old x call).state.seq }
 {
     let m = mount_with(account, x);
-    let outcome = engine::call(m, cnv, seq, x.kind, x.number, Call::Open);
-    settle(outcome)
-}
-
-fn close_settled(account: Account, cnv: &mut [u64], seq: &mut [u64], x: Asked) -> Settled
-    ensures value { result ≡ settled_by (closed account cnv.old seq.old x) }
-    ensures cnv_after { cnv.new ≡ (closed account cnv.old seq.old x).state.cnv }
-    ensures seq_after { seq.new ≡ (closed account cnv.old seq.old x).state.seq }
-{
-    let m = mount_with(account, x);
-    let outcome = engine::call(m, cnv, seq, x.kind, x.number, Call::Close);
-    settle(outcome)
+    settle(engine::call(m, cnv, seq, x.kind, x.number, call))
 }
 
 fn complete_settled(account: Account, cnv: &mut [u64], seq: &mut [u64], x: Asked) -> Settled
@@ -90,8 +77,7 @@ fn complete_settled(account: Account, cnv: &mut [u64], seq: &mut [u64], x: Asked
     ensures seq_after { seq.new ≡ (completed account cnv.old seq.old x).state.seq }
 {
     let m = mount_with(account, x);
-    let outcome = engine::complete(m, cnv, seq, x.kind, x.number);
-    settle(outcome)
+    settle(engine::complete(m, cnv, seq, x.kind, x.number))
 }
 
 fn fail_settled(
@@ -107,8 +93,7 @@ fn fail_settled(
 {
     let asked = x.asked;
     let m = mount_with(account, asked);
-    let outcome = engine::fail(m, cnv, seq, asked.kind, asked.number, bytes, x.given);
-    settle(outcome)
+    settle(engine::fail(m, cnv, seq, asked.kind, asked.number, bytes, x.given))
 }
 
 // An open of a file for writing.
@@ -119,8 +104,7 @@ pub fn open(a: &mut Account, cnv: &mut [u64], seq: &mut [u64], x: Asked) -> Repl
     ensures cnvs { cnv.new ≡ (opened a.old cnv.old seq.old x).state.cnv }
     ensures seqs { seq.new ≡ (opened a.old cnv.old seq.old x).state.seq }
 {
-    let account = *a;
-    let settled = open_settled(account, cnv, seq, x);
+    let settled = call_settled(*a, cnv, seq, x, Call::Open);
     *a = settled.account;
     settled.reply
 }
@@ -133,8 +117,7 @@ pub fn close(a: &mut Account, cnv: &mut [u64], seq: &mut [u64], x: Asked) -> Rep
     ensures cnvs { cnv.new ≡ (closed a.old cnv.old seq.old x).state.cnv }
     ensures seqs { seq.new ≡ (closed a.old cnv.old seq.old x).state.seq }
 {
-    let account = *a;
-    let settled = close_settled(account, cnv, seq, x);
+    let settled = call_settled(*a, cnv, seq, x, Call::Close);
     *a = settled.account;
     settled.reply
 }
@@ -147,8 +130,7 @@ pub fn complete(a: &mut Account, cnv: &mut [u64], seq: &mut [u64], x: Asked) -> 
     ensures cnvs { cnv.new ≡ (completed a.old cnv.old seq.old x).state.cnv }
     ensures seqs { seq.new ≡ (completed a.old cnv.old seq.old x).state.seq }
 {
-    let account = *a;
-    let settled = complete_settled(account, cnv, seq, x);
+    let settled = complete_settled(*a, cnv, seq, x);
     *a = settled.account;
     settled.reply
 }
@@ -161,8 +143,7 @@ pub fn fail(a: &mut Account, cnv: &mut [u64], seq: &mut [u64], x: Failed, bytes:
     ensures cnvs { cnv.new ≡ (failed a.old cnv.old seq.old x bytes.now).state.cnv }
     ensures seqs { seq.new ≡ (failed a.old cnv.old seq.old x bytes.now).state.seq }
 {
-    let account = *a;
-    let settled = fail_settled(account, cnv, seq, x, bytes);
+    let settled = fail_settled(*a, cnv, seq, x, bytes);
     *a = settled.account;
     settled.reply
 }

@@ -1,5 +1,6 @@
 -- What a mount that is not refused tells, and what gives it.
 -- Assumes nothing.
+use Rattle.std.specs.Prelude.{Ok, Err, Some, None, Result}
 use mathlib.Core.Path.{◌≡◌, refl, ap, ◌∙◌, sym}
 use mathlib.Core.List.{List}
 use mathlib.Core.Bool.{Bool, true, false, not}
@@ -10,79 +11,76 @@ use lib.ListN.{length, drop, length-drop}
 use lib.Dec.{ltb}
 use Rattle.types.specs.Blocks.{block_sectors, good_block, most_files}
 use Rattle.types.specs.Verdicts.{refuse, and_then}
+use Rattle.types.specs.declared.Refusal.{Refusal}
 use Rattle.types.specs.declared.Refusal.TheVariants.{BadBlock, BadOptions, TooFewRows}
-use Rattle.types.specs.declared.Verdict.{Verdict}
-use Rattle.types.specs.declared.Verdict.TheVariants as verdict
+use Rattle.types.specs.Answers.{Verdict}
 use Rattle.types.specs.declared.Mount.{Mount}
-use Rattle.types.specs.declared.MountAnswer.{MountAnswer}
-use Rattle.types.specs.declared.MountAnswer.TheVariants.{Mounted}
+use Rattle.types.specs.Answers.{MountAnswer}
 use Rattle.types.proofs.Tests.{or_left, or_right}
-use Rattle.types.proofs.VerdictLaws.{check_passed, check_passes, then_passed, then_passes}
+use Rattle.types.proofs.VerdictLaws.{check_passed, check_passes, then_passed, then_passes, given, not_given}
 use Rattle.table.specs.Rows.{rows_lent}
-use Rattle.superblock.specs.declared.SuperRead.{SuperRead}
-use Rattle.superblock.specs.SuperBlock.{super_read}
+use Rattle.superblock.specs.declared.SuperBlock.{SuperBlock}
+use Rattle.superblock.specs.SuperBlock.{super_read, found_in, fields_in}
 use Rattle.options.specs.Options.{options_of}
-use Rattle.options.specs.declared.Options.{Options}
-use Rattle.options.specs.declared.Options.TheVariants as options
+use Rattle.options.specs.Options.{Options}
 use Rattle.files.specs.declared.Walk.{Walk}
 use Rattle.files.specs.Files.{cnv_rows, seq_rows}
 use Rattle.files.specs.Walk.{begun, walked, cnv_files}
 use Rattle.files.proofs.Few.{seqs_few, cnvs_few}
 use Rattle.files.proofs.Walks.{cnv_count_lem, seq_count}
-use Rattle.report.specs.Report.{zones_of, report_check}
+use Rattle.report.specs.Report.{zones_of, report_check, report_read}
 use Rattle.report.proofs.Laws.{report-told, framed, all_bounded, zones_length}
 use Rattle.mount.specs.Mount.{bad_options, file_zones, too_few, opening_check, files_check, mount_check, answer_for, mount_answer_of, policy_of, explicit_of, mount_of, table_after, aggregated, mount_answer, mount_outcome}
 use Rattle.mount.specs.Facts.{Fits}
 
 -- THE CHECKS, passed
 
-options_told : (o : Options) → bad_options o ≡ false → o ≡ options.Good (record { policy = policy_of o; explicit = explicit_of o })
-options_told (options.Good a) h = refl
-options_told options.Bad h = let z : ◌≡◌ {A = ℕ} 0 1 = cc in absurd (omega arith)
+options_told : (o : Options) → bad_options o ≡ false → o ≡ Some (record { policy = policy_of o; explicit = explicit_of o })
+options_told (Some a) h = refl
+options_told None h = let z : ◌≡◌ {A = ℕ} 0 1 = cc in absurd (omega arith)
 
-pub opening_block : (block : ℕ) (found : Verdict) (o : Options) → opening_check block found o ≡ verdict.Passed → good_block block ≡ true
+pub opening_block : (block : ℕ) (found : Verdict) (o : Options) → opening_check block found o ≡ Ok tt → good_block block ≡ true
 unfolding opening_check
 opening_block block found o h = not-false (good_block block) (check_passed BadBlock h).0
 
 -- an answer of 0 comes after checks that found nothing
-answered : (v : Verdict) (x y c s : ℕ) → answer_for v x y ≡ Mounted c s → (v ≡ verdict.Passed) × (x ≡ c) × (y ≡ s)
+answered : (v : Verdict) (x y c s : ℕ) → answer_for v x y ≡ Ok (c, s) → (v ≡ Ok tt) × (x ≡ c) × (y ≡ s)
 unfolding answer_for
-answered verdict.Passed x y c s h = (refl, cc, cc)
-answered (verdict.Refused r) x y c s h = let z : ◌≡◌ {A = ℕ} 0 1 = cc in absurd (omega arith)
+answered (Ok _) x y c s h =
+    let both : ◌≡◌ {A = ℕ × ℕ} (x, y) (c, s) = cc in
+    (refl, ap (λ (p : ℕ × ℕ). p.0) both, ap (λ (p : ℕ × ℕ). p.1) both)
+answered (Err r) x y c s h = let z : ◌≡◌ {A = ℕ} 0 1 = cc in absurd (omega arith)
 
--- the walk has counted the files where the report is good, and where it is not they don't matter
-counted : (v : Verdict) (x y x' y' cnv_room seq_room : ℕ) → (v ≡ verdict.Passed → (x ≡ x') × (y ≡ y'))
-    → answer_for (and_then v (refuse (too_few cnv_room seq_room x y) TooFewRows verdict.Passed)) x y
-    ≡ answer_for (and_then v (refuse (too_few cnv_room seq_room x' y') TooFewRows verdict.Passed)) x' y'
-unfolding answer_for and_then
-counted verdict.Passed x y x' y' cnv_room seq_room h = rw ((h refl).0, (h refl).1)
-counted (verdict.Refused r) x y x' y' cnv_room seq_room h = refl
+-- the walk over a good report has counted its files; of another there is no walk
+module _ (block : ℕ) (aggregate : Bool) (b : List ℕ) (cnv_room seq_room : ℕ) where
+  pub files_answer : (w : Walk) → report_read (block_sectors block) aggregate b ≡ Ok w
+      → answer_for (refuse (too_few cnv_room seq_room (cnv_files w) w.seqs) TooFewRows (Ok tt)) (cnv_files w) w.seqs
+      ≡ answer_for (files_check block aggregate b cnv_room seq_room) (length (cnv_rows aggregate (file_zones b))) (length (seq_rows (file_zones b)))
+  unfolding files_check file_zones and_then
+  files_answer w e =
+      let zs = zones_of b in
+      let so = given (report_check (block_sectors block) b) e in
+      rw (so.0, sym (ap cnv_files (sym so.1) ∙ cnv_count_lem aggregate zs), sym (ap (λ (w : Walk). w.seqs) (sym so.1) ∙ seq_count aggregate zs))
 
-pub files_answer : (block : ℕ) (aggregate : Bool) (b : List ℕ) (cnv_room seq_room : ℕ) (found : Verdict) (w : Walk)
-    → found ≡ report_check (block_sectors block) b → (found ≡ verdict.Passed → w ≡ walked aggregate begun (zones_of b))
-    → answer_for (and_then found (refuse (too_few cnv_room seq_room (cnv_files w) w.seqs) TooFewRows verdict.Passed)) (cnv_files w) w.seqs
-    ≡ answer_for (files_check block aggregate b cnv_room seq_room) (length (cnv_rows aggregate (file_zones b))) (length (seq_rows (file_zones b)))
-unfolding files_check file_zones
-files_answer block aggregate b cnv_room seq_room found w e h =
-    let zs = zones_of b in
-    counted found _ _ _ _ cnv_room seq_room (λ p. (ap cnv_files (h p) ∙ cnv_count_lem aggregate zs, ap (λ (w : Walk). w.seqs) (h p) ∙ seq_count aggregate zs))
-    ∙ rw e
+  pub files_refused : {x : Refusal} → report_read (block_sectors block) aggregate b ≡ Err x → Err x ≡ answer_for (files_check block aggregate b cnv_room seq_room) (length (cnv_rows aggregate (file_zones b))) (length (seq_rows (file_zones b)))
+  unfolding files_check and_then answer_for
+  files_refused e = rw (not_given (report_check (block_sectors block) b) (walked aggregate begun (zones_of b)) e)
 
 -- AN ANSWER OF 0
 
 -- what it tells, and what gives it
 pub record Accepted (block : ℕ) (found : Verdict) (parsed : Options) (aggregate : Bool) (b : List ℕ) (cnv_room seq_room c s : ℕ) : Type 0 where
   pub unit : good_block block ≡ true
-  pub super : found ≡ verdict.Passed
-  pub options : parsed ≡ options.Good (record { policy = policy_of parsed; explicit = explicit_of parsed })
-  pub report : report_check (block_sectors block) b ≡ verdict.Passed
+  pub super : found ≡ Ok tt
+  pub options : parsed ≡ Some (record { policy = policy_of parsed; explicit = explicit_of parsed })
+  pub report : report_check (block_sectors block) b ≡ Ok tt
   pub cnvs : c ≡ length (cnv_rows aggregate (file_zones b))
   pub seqs : s ≡ length (seq_rows (file_zones b))
   pub cnv_fit : c ≤ cnv_room
   pub seq_fit : s ≤ seq_room
 
 module _ (block : ℕ) (found : Verdict) (parsed : Options) (aggregate : Bool) (b : List ℕ) (cnv_room seq_room c s : ℕ) where
-  pub answer_told : mount_answer_of block found parsed aggregate b cnv_room seq_room ≡ Mounted c s → Accepted block found parsed aggregate b cnv_room seq_room c s
+  pub answer_told : mount_answer_of block found parsed aggregate b cnv_room seq_room ≡ Ok (c, s) → Accepted block found parsed aggregate b cnv_room seq_room c s
   unfolding mount_answer_of mount_check opening_check files_check
   answer_told h =
       let cs = length (cnv_rows aggregate (file_zones b)) in
@@ -105,21 +103,21 @@ module _ (block : ℕ) (found : Verdict) (parsed : Options) (aggregate : Bool) (
         seq_fit = omega (arith, all.2, ltb-false seq_room ss (or_right (ltb cnv_room cs) (ltb seq_room ss) five.0));
       }
 
-  pub answer_given : Accepted block found parsed aggregate b cnv_room seq_room c s → mount_answer_of block found parsed aggregate b cnv_room seq_room ≡ Mounted c s
+  pub answer_given : Accepted block found parsed aggregate b cnv_room seq_room c s → mount_answer_of block found parsed aggregate b cnv_room seq_room ≡ Ok (c, s)
   unfolding mount_answer_of mount_check opening_check files_check answer_for
   answer_given a =
       let cs = length (cnv_rows aggregate (file_zones b)) in
       let ss = length (seq_rows (file_zones b)) in
       let wide : ltb cnv_room cs ≡ false = le-ltb cnv_room cs (omega (arith, a.cnvs, a.cnv_fit)) in
       let deep : ltb seq_room ss ≡ false = le-ltb seq_room ss (omega (arith, a.seqs, a.seq_fit)) in
-      let opening : opening_check block found parsed ≡ verdict.Passed =
+      let opening : opening_check block found parsed ≡ (Ok tt) =
       check_passes BadBlock (ap not a.unit) (then_passes a.super (check_passes BadOptions (ap bad_options a.options) refl)) in
-      let files : files_check block aggregate b cnv_room seq_room ≡ verdict.Passed =
+      let files : files_check block aggregate b cnv_room seq_room ≡ (Ok tt) =
       then_passes a.report (check_passes TooFewRows (rw (wide, deep)) refl) in
       rw (then_passes opening files, a.cnvs, a.seqs)
 
   -- so the rows can be stored
-  pub answer_fits : mount_answer_of block found parsed aggregate b cnv_room seq_room ≡ Mounted c s → Fits aggregate b cnv_room seq_room
+  pub answer_fits : mount_answer_of block found parsed aggregate b cnv_room seq_room ≡ Ok (c, s) → Fits aggregate b cnv_room seq_room
   answer_fits h =
       let a = answer_told h in
       let good = report-told (block_sectors block) b a.report in
@@ -141,12 +139,12 @@ module _ (block : ℕ) (found : Verdict) (parsed : Options) (aggregate : Bool) (
 
 -- THE OUTCOME, from its parts as the code finds them
 module _ (block : ℕ) (sb text b : List ℕ) (open_limit active_limit : ℕ) (cnv seq : List ℕ) where
-  pub outcome_is : {read : SuperRead} {parsed : Options} {cnvs seqs : ℕ} {answer : MountAnswer} {mount : Mount} {cnv' seq' : List ℕ}
+  pub outcome_is : {read : Result SuperBlock Refusal} {parsed : Options} {cnvs seqs : ℕ} {answer : MountAnswer} {mount : Mount} {cnv' seq' : List ℕ}
       → read ≡ super_read sb → parsed ≡ options_of text → cnvs ≡ rows_lent (length cnv) → seqs ≡ rows_lent (length seq)
-      → answer ≡ mount_answer_of block read.check parsed read.fields.aggregate b cnvs seqs
-      → cnv' ≡ table_after answer cnv (cnv_rows read.fields.aggregate (file_zones b))
+      → answer ≡ mount_answer_of block (found_in read) parsed (fields_in read).aggregate b cnvs seqs
+      → cnv' ≡ table_after answer cnv (cnv_rows (fields_in read).aggregate (file_zones b))
       → seq' ≡ table_after answer seq (seq_rows (file_zones b))
-      → mount ≡ mount_of answer block read.fields parsed open_limit active_limit seq'
+      → mount ≡ mount_of answer block (fields_in read) parsed open_limit active_limit seq'
       → (answer ≡ (mount_outcome block sb text b open_limit active_limit cnv seq).answer) × (mount ≡ (mount_outcome block sb text b open_limit active_limit cnv seq).mount)
       × (cnv' ≡ (mount_outcome block sb text b open_limit active_limit cnv seq).cnv) × (seq' ≡ (mount_outcome block sb text b open_limit active_limit cnv seq).seq)
   unfolding mount_outcome mount_answer
@@ -157,12 +155,12 @@ module _ (block : ℕ) (sb text b : List ℕ) (open_limit active_limit : ℕ) (c
 -- AN OUTCOME OF 0, and what gives it
 
 module _ (block : ℕ) (sb text b : List ℕ) (open_limit active_limit : ℕ) (cnv seq : List ℕ) (c s : ℕ) where
-  pub mounted-told : (mount_outcome block sb text b open_limit active_limit cnv seq).answer ≡ Mounted c s
-      → Accepted block (super_read sb).check (options_of text) (aggregated sb) b (rows_lent (length cnv)) (rows_lent (length seq)) c s
+  pub mounted-told : (mount_outcome block sb text b open_limit active_limit cnv seq).answer ≡ Ok (c, s)
+      → Accepted block (found_in (super_read sb)) (options_of text) (aggregated sb) b (rows_lent (length cnv)) (rows_lent (length seq)) c s
   unfolding mount_outcome mount_answer
   mounted-told answered = answer_told block _ _ _ b _ _ c s answered
 
-  pub mounted_given : Accepted block (super_read sb).check (options_of text) (aggregated sb) b (rows_lent (length cnv)) (rows_lent (length seq)) c s
-      → (mount_outcome block sb text b open_limit active_limit cnv seq).answer ≡ Mounted c s
+  pub mounted_given : Accepted block (found_in (super_read sb)) (options_of text) (aggregated sb) b (rows_lent (length cnv)) (rows_lent (length seq)) c s
+      → (mount_outcome block sb text b open_limit active_limit cnv seq).answer ≡ Ok (c, s)
   unfolding mount_outcome mount_answer
   mounted_given a = answer_given block _ _ _ b _ _ c s a

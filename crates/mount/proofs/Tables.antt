@@ -1,5 +1,6 @@
 -- A filled table: row after row stored gives it, and its rows read back.
 -- Assumes nothing.
+use Rattle.std.specs.Prelude.{Ok}
 use mathlib.Core.Path.{◌≡◌, refl, ap, ◌∙◌, sym}
 use mathlib.Core.List.{List, [], ◌∷◌, ◌++◌}
 use Prim.Native.Nat.{ℕ, zero, suc, ◌+◌, ◌*◌, ◌≤◌, ◌<◌}
@@ -8,7 +9,6 @@ use native.Mathlib.Omega.{arith}
 use lib.ListN.{length, drop, get_or, set}
 use lib.Seq.{sets, sets-eq}
 use Rattle.types.specs.declared.Row.{Row}
-use Rattle.table.specs.declared.Slot.TheVariants.{Good}
 use Rattle.table.specs.Rows.{row_width, rows_lent, row_words, row_at, set_row}
 use Rattle.table.proofs.Laws.{set_row-length, row_at-same, row_at_other}
 use Rattle.mount.specs.Fill.{rows_words, fill}
@@ -66,7 +66,7 @@ unfolding fill_from
 from_below t i [] j h = refl
 from_below t i (r ∷ rs) j h = from_below (set_row t i r) (i + 1) rs j (omega arith) ∙ row_at_other t i j r (λ q. omega arith)
 
-from_row : (t : List ℕ) (i : ℕ) (rows : List Row) (n : ℕ) (d : Row) → n < length rows → i + length rows ≤ rows_lent (length t) → row_at (fill_from t i rows) (i + n) ≡ Good (get_or rows n d)
+from_row : (t : List ℕ) (i : ℕ) (rows : List Row) (n : ℕ) (d : Row) → n < length rows → i + length rows ≤ rows_lent (length t) → row_at (fill_from t i rows) (i + n) ≡ Ok (get_or rows n d)
 unfolding fill_from
 from_row t i [] n d h f = absurd (omega arith)
 from_row t i (r ∷ rs) zero d h f =
@@ -77,7 +77,7 @@ from_row t i (r ∷ rs) (suc n) d h f =
     rw there (from_row (set_row t i r) (i + 1) rs n d (omega arith) (omega (arith, set_row-length t i r)))
 
 -- row n of a filled table is row n of the list
-pub filled_row : (t : List ℕ) (rows : List Row) (n : ℕ) (d : Row) → n < length rows → length rows ≤ rows_lent (length t) → row_at (fill t rows) n ≡ Good (get_or rows n d)
+pub filled_row : (t : List ℕ) (rows : List Row) (n : ℕ) (d : Row) → n < length rows → length rows ≤ rows_lent (length t) → row_at (fill t rows) n ≡ Ok (get_or rows n d)
 filled_row t rows n d h f =
     ap (λ (u : List ℕ). row_at u n) (sym (fill_from_lem t rows f))
     ∙ ap (row_at (fill_from t 0 rows)) (sym (zero-add n))

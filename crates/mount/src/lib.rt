@@ -4,7 +4,6 @@
 ghost use Rattle.std.specs.Prelude.{◌≡◌, true, cond, ℕ, ◌+◌, ◌≤◌, ◌^◌, length};
 ghost use Rattle.types.specs.Blocks.{good_block, most_files};
 ghost use Rattle.types.specs.Codes.{flag_code};
-ghost use Rattle.types.specs.declared.MountAnswer.TheVariants.{Mounted};
 ghost use Rattle.table.specs.Rows.{rows_lent, set_row};
 ghost use Rattle.zones.specs.Facts.{Bounded};
 ghost use Rattle.files.specs.Files.{seq_row, seq_rows, cnv_rows};
@@ -14,79 +13,77 @@ ghost use Rattle.mount.specs.Mount.{bad_options, file_zones, opening_check, file
 ghost use Rattle.mount.specs.Facts.{Fits};
 
 use files::{Run, Walk};
-use options::Options;
+use options::Asked;
 use superblock::SuperBlock;
-use types::answers::{and_then, refuse};
-use types::{Account, ErrorPolicy, Mount, MountAnswer, MountOutcome, Refusal, Verdict, Volume};
+use types::answers::refuse;
+use types::{Account, ErrorPolicy, Mount, MountOutcome, Refusal, Volume};
 use zones::Zone;
 
-fn bad_options(parsed: Options) -> bool
+fn bad_options(parsed: Option<Asked>) -> bool
     ensures { result ≡ bad_options parsed }
 {
-    match parsed {
-        Options::Good(_) => false,
-        Options::Bad => true,
-    }
+    parsed.is_none()
 }
 
 // The checks 20 to 27, with what was found of the super block.
-pub fn opening_check(block: u64, found: Verdict, parsed: Options) -> Verdict
+#[tactic(auto, unfolding(types::specs::Verdicts::refuse, types::specs::Verdicts::and_then, crate::specs::Mount::opening_check))]
+pub fn opening_check(
+    block: u64,
+    found: Result<(), Refusal>,
+    parsed: Option<Asked>,
+) -> Result<(), Refusal>
     ensures { result ≡ opening_check block found parsed }
 {
-    let options = refuse(bad_options(parsed), Refusal::BadOptions, Verdict::Passed);
-    let rest = and_then(found, options);
-    refuse(!types::units::good_block(block), Refusal::BadBlock, rest)
+    refuse(!types::units::good_block(block), Refusal::BadBlock)?;
+    found?;
+    refuse(bad_options(parsed), Refusal::BadOptions)
 }
 
 // The refusal, or the numbers of files.
-pub fn answer_for(found: Verdict, cnvs: u32, seqs: u32) -> MountAnswer
+#[tactic(auto, unfolding(crate::specs::Mount::answer_for))]
+pub fn answer_for(found: Result<(), Refusal>, cnvs: u32, seqs: u32) -> Result<(u32, u32), Refusal>
     ensures { result ≡ answer_for found cnvs seqs }
 {
-    match found {
-        Verdict::Passed => MountAnswer::Mounted(cnvs, seqs),
-        Verdict::Refused(x) => MountAnswer::Refused(x),
-    }
+    found?;
+    Ok((cnvs, seqs))
 }
 
 // The answer of the checks 28 to 30, with room for so many rows of each kind. The walk has counted what a good report holds.
-fn files_answer(block: u64, aggregate: bool, b: &[u8], cnvs: usize, seqs: usize) -> MountAnswer
+fn files_answer(
+    block: u64,
+    aggregate: bool,
+    b: &[u8],
+    cnvs: usize,
+    seqs: usize,
+) -> Result<(u32, u32), Refusal>
     requires { good_block block ≡ true }
     ensures { result ≡ answer_for (files_check block aggregate b.now cnvs seqs) (length (cnv_rows aggregate (file_zones b.now))) (length (seq_rows (file_zones b.now))) }
 {
-    let read = report::check_report(b, types::units::block_sectors(block), aggregate);
-    let found = read.check;
-    let walk = read.walk;
+    let walk = report::check_report(b, types::units::block_sectors(block), aggregate)?;
     let cnv = files::cnv_files(walk);
     let seq = walk.seqs;
-    let few = refuse(
-        (cnvs < cnv) | (seqs < seq),
-        Refusal::TooFewRows,
-        Verdict::Passed,
-    );
-    let all = and_then(found, few);
-    answer_for(all, cnv as u32, seq as u32)
+    refuse((cnvs < cnv) | (seqs < seq), Refusal::TooFewRows)?;
+    Ok((cnv as u32, seq as u32))
 }
 
 // The answer, from what was found of the super block and of the options. Only a good block has sectors to check the report by.
 fn mount_answer(
     block: u64,
-    found: Verdict,
-    parsed: Options,
+    found: Result<(), Refusal>,
+    parsed: Option<Asked>,
     aggregate: bool,
     b: &[u8],
     cnvs: usize,
     seqs: usize,
-) -> MountAnswer
+) -> Result<(u32, u32), Refusal>
     ensures { result ≡ mount_answer_of block found parsed aggregate b.now cnvs seqs }
 {
-    let opening = opening_check(block, found, parsed);
-    match opening {
-        Verdict::Passed => files_answer(block, aggregate, b, cnvs, seqs),
-        Verdict::Refused(first) => MountAnswer::Refused(first),
-    }
+    opening_check(block, found, parsed)?;
+    files_answer(block, aggregate, b, cnvs, seqs)
 }
 
 // Stores the row of a run at number `i`, if it is finished.
+// It and `put_seq` stay beside those of `intake`: here there is room, there it is looked for.
 fn put_run(t: &mut [u64], i: usize, run: Run, ends: bool)
     requires { (run.capacity ≤ 2 ^ 50) × (i + flag_code ends ≤ rows_lent (length t.old)) }
     ensures { t.new ≡ cond ends (set_row t.old i (row_of_run run)) t.old }
@@ -107,6 +104,7 @@ fn put_seq(t: &mut [u64], walk: Walk, z: Zone)
 }
 
 // Stores the rows of a report's files, each as the walk finishes it.
+#[tactic(auto, unfolding(crate::specs::Fill::fill, files::specs::Files::cnv_rows, crate::specs::Mount::file_zones, files::specs::Files::seq_rows))]
 fn write_files(b: &[u8], aggregate: bool, cnv: &mut [u64], seq: &mut [u64])
     requires { Fits aggregate b.now (rows_lent (length cnv.old)) (rows_lent (length seq.old)) }
     ensures cnvs { cnv.new ≡ fill cnv.old (cnv_rows aggregate (file_zones b.now)) }
@@ -114,6 +112,7 @@ fn write_files(b: &[u8], aggregate: bool, cnv: &mut [u64], seq: &mut [u64])
 {
     let count = report::zone_count(b);
     let mut walk = files::begin();
+    // It stays a `while`: the number is the walk's own, and a `for` would count it a second time.
     while walk.number < count {
         let z = report::read_zone(b, walk.number);
         let run = walk.run;
@@ -126,33 +125,34 @@ fn write_files(b: &[u8], aggregate: bool, cnv: &mut [u64], seq: &mut [u64])
 }
 
 // Stores the rows of a report's files, where the mount is not refused.
-fn fill_tables(answer: MountAnswer, aggregate: bool, b: &[u8], cnv: &mut [u64], seq: &mut [u64])
-    requires { (c s : ℕ) → answer ≡ Mounted c s → Fits aggregate b.now (rows_lent (length cnv.old)) (rows_lent (length seq.old)) }
+#[tactic(auto, unfolding(crate::specs::Mount::table_after, files::specs::Files::cnv_rows, crate::specs::Mount::file_zones, files::specs::Files::seq_rows))]
+fn fill_tables(
+    answer: Result<(u32, u32), Refusal>,
+    aggregate: bool,
+    b: &[u8],
+    cnv: &mut [u64],
+    seq: &mut [u64],
+)
+    requires { (c s : ℕ) → answer ≡ Ok (c, s) → Fits aggregate b.now (rows_lent (length cnv.old)) (rows_lent (length seq.old)) }
     ensures cnvs { cnv.new ≡ table_after answer cnv.old (cnv_rows aggregate (file_zones b.now)) }
     ensures seqs { seq.new ≡ table_after answer seq.old (seq_rows (file_zones b.now)) }
 {
-    if let MountAnswer::Mounted(_, _) = answer {
+    if let Ok((_, _)) = answer {
         write_files(b, aggregate, cnv, seq);
     }
 }
 
 // What options ask for. Bad ones ask for nothing, and the mount is refused.
-fn policy_of(parsed: Options) -> ErrorPolicy
+fn policy_of(parsed: Option<Asked>) -> ErrorPolicy
     ensures { result ≡ policy_of parsed }
 {
-    match parsed {
-        Options::Good(asked) => asked.policy,
-        Options::Bad => ErrorPolicy::RemountRo,
-    }
+    parsed.map_or(ErrorPolicy::RemountRo, |asked| asked.policy)
 }
 
-fn explicit_of(parsed: Options) -> bool
+fn explicit_of(parsed: Option<Asked>) -> bool
     ensures { result ≡ explicit_of parsed }
 {
-    match parsed {
-        Options::Good(asked) => asked.explicit,
-        Options::Bad => false,
-    }
+    parsed.is_some_and(|asked| asked.explicit)
 }
 
 // The account of a new mount: no file is open.
@@ -168,11 +168,15 @@ pub fn account_of(active: u32, open_limit: u32, active_limit: u32) -> Account
 }
 
 // What a mount fixes, with so many files.
-pub fn volume_of(cnvs: u32, seqs: u32, block: u64, fields: SuperBlock, parsed: Options) -> Volume
+pub fn volume_of(
+    cnvs: u32,
+    seqs: u32,
+    block: u64,
+    fields: SuperBlock,
+    parsed: Option<Asked>,
+) -> Volume
     ensures { result ≡ volume_of cnvs seqs block fields parsed }
 {
-    let policy = policy_of(parsed);
-    let explicit = explicit_of(parsed);
     let uuid = fields.uuid;
     Volume {
         block,
@@ -181,28 +185,29 @@ pub fn volume_of(cnvs: u32, seqs: u32, block: u64, fields: SuperBlock, parsed: O
         owner: fields.owner,
         group: fields.group,
         mode: fields.mode,
-        policy,
-        explicit,
+        policy: policy_of(parsed),
+        explicit: explicit_of(parsed),
         uuid,
     }
 }
 
 // The mount value: a refused mount hands out the empty one. The active files are counted in the table that the mount has filled.
+#[tactic(auto, unfolding(crate::specs::Mount::mount_of))]
 fn mount_of(
-    answer: MountAnswer,
+    answer: Result<(u32, u32), Refusal>,
     block: u64,
     fields: SuperBlock,
-    parsed: Options,
+    parsed: Option<Asked>,
     open_limit: u32,
     active_limit: u32,
     seq: &[u64],
 ) -> Mount
-    requires { (c s : ℕ) → answer ≡ Mounted c s → (s ≤ most_files) × (s ≤ rows_lent (length seq.now)) }
+    requires { (c s : ℕ) → answer ≡ Ok (c, s) → (s ≤ most_files) × (s ≤ rows_lent (length seq.now)) }
     ensures { result ≡ mount_of answer block fields parsed open_limit active_limit seq.now }
 {
     match answer {
-        MountAnswer::Refused(_) => types::mounts::empty_mount(),
-        MountAnswer::Mounted(cnvs, seqs) => {
+        Err(_) => types::mounts::empty_mount(),
+        Ok((cnvs, seqs)) => {
             let volume = volume_of(cnvs, seqs, block, fields, parsed);
             let active = account::count_active(volume.explicit, seq, seqs);
             let account = account_of(active, open_limit, active_limit);
@@ -232,8 +237,8 @@ pub fn mount(
     ensures seqs { seq.new ≡ (mount_outcome block superblock.now options.now report.now open_limit active_limit cnv.old seq.old).seq }
 {
     let read = superblock::read_superblock(superblock);
-    let found = read.check;
-    let fields = read.fields;
+    let found = superblock::found_in(read);
+    let fields = superblock::fields_in(read);
     let aggregate = fields.aggregate;
     let parsed = options::read_options(options);
     let cnvs = table::rows_lent(cnv.len());

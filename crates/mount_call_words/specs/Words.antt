@@ -2,8 +2,8 @@
 -- the formatter in `format_words`.
 use Rattle.std.specs.Prelude.{ℕ, List, Bool, cond, ◌&&◌, length, leb}
 use Rattle.types.specs.declared.Refusal.TheVariants.{Impossible}
-use Rattle.types.specs.declared.FindAnswer.{FindAnswer}
-use Rattle.types.specs.declared.ShowAnswer.{ShowAnswer}
+use Rattle.types.specs.Answers.{FindAnswer}
+use Rattle.types.specs.Answers.{ShowAnswer}
 use Rattle.types.specs.Numbers.{refusal_number, mount_number, mount_values, find_number, find_values, show_number, show_values}
 use Rattle.mount.specs.Mount.{Mounting, mount_outcome}
 use Rattle.inspect.specs.Find.{find_of}

@@ -5,32 +5,32 @@
 ghost use Rattle.std.specs.Prelude.{◌≡◌, true, List, ℕ, ◌≤◌, length};
 ghost use Rattle.mount_words.specs.Words.{mount_length, account_length};
 ghost use Rattle.answer_words.specs.Answers.{answer_length};
-ghost use Rattle.mount_call_words.specs.Words.{told_found, find_words, told_shown, show_words, roomy, told_mounted, mount_given};
+ghost use Rattle.mount_call_words.specs.Words.{find_words, show_words, roomy, told_mounted, mount_given};
 
-use types::{FindAnswer, MountOutcome, ShowAnswer};
+use types::{MountOutcome, Refusal};
 
 // The words of a mount value, of its account and of an answer are long enough.
+#[tactic(auto, unfolding(crate::specs::Words::roomy))]
 fn is_roomy(w: usize, account: usize, a: usize) -> bool
     ensures value { result ≡ roomy w account a }
     ensures mount_length_le_w { result ≡ true → (mount_length ≤ w) × (account_length ≤ account) × (answer_length ≤ a) }
 {
-    (mount_words::MOUNT_WORDS <= w)
-        & (mount_words::ACCOUNT_WORDS <= account)
-        & (answer_words::ANSWER_WORDS <= a)
+    mount_words::MOUNT_WORDS <= w
+        && mount_words::ACCOUNT_WORDS <= account
+        && answer_words::ANSWER_WORDS <= a
 }
 
+#[tactic(auto, unfolding(answer_words::specs::Answers::answer_words))]
 fn tell_mounted(w: &mut [u64], account: &mut [u64], a: &mut [u64], o: MountOutcome) -> u64
     requires { (mount_length ≤ length w.old) × (account_length ≤ length account.old) × (answer_length ≤ length a.old) }
     ensures { (cnv seq : List ℕ) → told_mounted w.old account.old a.old (record { answer = o.answer; mount = o.mount; cnv = cnv; seq = seq }) ≡ record { number = result; mount = w.new; account = account.new; cnv = cnv; seq = seq; answer = a.new } }
 {
-    let m = o.mount;
-    let x = o.answer;
-    mount_words::put_all(w, account, m);
-    answer_words::put_values(a, answer_words::mount_values(x));
-    types::answers::mount_number(x)
+    mount_words::put_all(w, account, o.mount);
+    answer_words::tell(a, o.answer, answer_words::mount_values(o.answer))
 }
 
 // Mounts: fills both tables and the words of the mount and of its account.
+#[tactic(auto, unfolding(crate::specs::Words::mount_given))]
 pub fn mount(
     block: u64,
     superblock: &[u8],
@@ -47,7 +47,7 @@ pub fn mount(
     ensures { mount_given block superblock.now options.now report.now open_limit active_limit cnv.old seq.old w.old account.old a.old ≡ record { number = result; mount = w.new; account = account.new; cnv = cnv.new; seq = seq.new; answer = a.new } }
 {
     if !is_roomy(w.len(), account.len(), a.len()) {
-        return step_words::IMPOSSIBLE;
+        return types::answers::refusal_number(Refusal::Impossible);
     }
     tell_mounted(
         w,
@@ -66,34 +66,21 @@ pub fn mount(
     )
 }
 
-fn tell_found(a: &mut [u64], x: FindAnswer) -> u64
-    requires { answer_length ≤ length a.old }
-    ensures { told_found a.old x ≡ record { number = result; answer = a.new } }
-{
-    answer_words::put_values(a, answer_words::find_values(x));
-    types::answers::find_number(x)
-}
-
 // The file of a name.
+#[tactic(auto, unfolding(crate::specs::Words::find_words, answer_words::specs::Answers::answer_words))]
 pub fn find(w: &[u64], account: &[u64], cnv: &[u64], seq: &[u64], name: &[u8], a: &mut [u64]) -> u64
     ensures { find_words w.now account.now cnv.now seq.now name.now a.old ≡ record { number = result; answer = a.new } }
 {
     if !step_words::is_usable(w, account, a.len()) {
-        return step_words::IMPOSSIBLE;
+        return types::answers::refusal_number(Refusal::Impossible);
     }
     let m = mount_words::mount_from(w, account);
-    tell_found(a, inspect::find(m, cnv, seq, name))
-}
-
-fn tell_shown(a: &mut [u64], x: ShowAnswer) -> u64
-    requires { answer_length ≤ length a.old }
-    ensures { told_shown a.old x ≡ record { number = result; answer = a.new } }
-{
-    answer_words::put_values(a, answer_words::show_values(x));
-    types::answers::show_number(x)
+    let x = inspect::find(m, cnv, seq, name);
+    answer_words::tell(a, x, answer_words::find_values(x))
 }
 
 // A file's row, and the mode that it is shown with.
+#[tactic(auto, unfolding(crate::specs::Words::show_words, answer_words::specs::Answers::answer_words))]
 pub fn show(
     w: &[u64],
     account: &[u64],
@@ -106,8 +93,9 @@ pub fn show(
     ensures { show_words w.now account.now cnv.now seq.now kind number a.old ≡ record { number = result; answer = a.new } }
 {
     if !step_words::is_usable(w, account, a.len()) {
-        return step_words::IMPOSSIBLE;
+        return types::answers::refusal_number(Refusal::Impossible);
     }
     let m = mount_words::mount_from(w, account);
-    tell_shown(a, inspect::show_by(m, cnv, seq, kind as u64, number))
+    let x = inspect::show_by(m, cnv, seq, kind as u64, number);
+    answer_words::tell(a, x, answer_words::show_values(x))
 }

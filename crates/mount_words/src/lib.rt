@@ -48,10 +48,10 @@ const OPEN_LIMIT: usize = 2;
 const ACTIVE_LIMIT: usize = 3;
 
 // 2 ^ 32: numbers of 32 bits are below it.
-const SHORT: u64 = 4294967296;
+pub const SHORT: u64 = 4294967296;
 
 // The codes of yes and no.
-const FLAGS: u64 = 2;
+pub const FLAGS: u64 = 2;
 
 fn good_volume(w: &[u64]) -> bool
     requires { mount_length ≤ length w.now }
@@ -73,14 +73,12 @@ fn good_state(w: &[u64]) -> bool
     w[READONLY] < FLAGS
 }
 
+#[tactic(auto, unfolding(crate::specs::Words::possible_mount))]
 fn is_mount(w: &[u64]) -> bool
     ensures value { result ≡ possible_mount w.now }
     ensures mount_length_in_bounds { result ≡ true → mount_length ≤ length w.now }
 {
-    if w.len() < MOUNT_WORDS {
-        return false;
-    }
-    good_volume(w) & good_state(w)
+    MOUNT_WORDS <= w.len() && good_volume(w) && good_state(w)
 }
 
 fn good_account(x: &[u64]) -> bool
@@ -90,22 +88,21 @@ fn good_account(x: &[u64]) -> bool
     (x[OPENED] < SHORT) & (x[ACTIVE] < SHORT) & (x[OPEN_LIMIT] < SHORT) & (x[ACTIVE_LIMIT] < SHORT)
 }
 
+#[tactic(auto, unfolding(crate::specs::Words::possible_account))]
 fn is_account(x: &[u64]) -> bool
     ensures value { result ≡ possible_account x.now }
     ensures account_length_in_bounds { result ≡ true → account_length ≤ length x.now }
 {
-    if x.len() < ACCOUNT_WORDS {
-        return false;
-    }
-    good_account(x)
+    ACCOUNT_WORDS <= x.len() && good_account(x)
 }
 
 // The words hold a mount value, and those beside them its account. Any words are taken.
+#[tactic(auto, unfolding(crate::specs::Words::possible))]
 pub fn is_possible(w: &[u64], x: &[u64]) -> bool
     ensures value { result ≡ possible w.now x.now }
     ensures mount_length_in_bounds { result ≡ true → (mount_length ≤ length w.now) × (account_length ≤ length x.now) }
 {
-    is_mount(w) & is_account(x)
+    is_mount(w) && is_account(x)
 }
 
 // The number of 32 bits in a word.
@@ -116,6 +113,7 @@ fn short_at(w: &[u64], k: usize) -> u32
     (w[k] % SHORT) as u32
 }
 
+#[tactic(auto, unfolding(wire::specs::Le::little))]
 fn uuid_from(low: u64, high: u64) -> [u8; 16]
     ensures { result ≡ little 8 low ++ little 8 high }
 {
@@ -129,24 +127,16 @@ fn volume_from(w: &[u64]) -> Volume
     requires { mount_length ≤ length w.now }
     ensures { result ≡ volume_from w.now }
 {
-    let conventional = short_at(w, CONVENTIONAL);
-    let sequential = short_at(w, SEQUENTIAL);
-    let owner = short_at(w, OWNER);
-    let group = short_at(w, GROUP);
-    let mode = short_at(w, MODE);
-    let policy = codes::policy_from(w[POLICY]);
-    let uuid = uuid_from(w[UUID_LOW], w[UUID_HIGH]);
-    let explicit = w[EXPLICIT] != 0;
     Volume {
         block: w[BLOCK],
-        conventional,
-        sequential,
-        owner,
-        group,
-        mode,
-        policy,
-        explicit,
-        uuid,
+        conventional: short_at(w, CONVENTIONAL),
+        sequential: short_at(w, SEQUENTIAL),
+        owner: short_at(w, OWNER),
+        group: short_at(w, GROUP),
+        mode: short_at(w, MODE),
+        policy: codes::policy_from(w[POLICY]),
+        explicit: w[EXPLICIT] != 0,
+        uuid: uuid_from(w[UUID_LOW], w[UUID_HIGH]),
     }
 }
 
@@ -154,29 +144,24 @@ fn account_from(x: &[u64]) -> Account
     requires { account_length ≤ length x.now }
     ensures { result ≡ account_from x.now }
 {
-    let opened = short_at(x, OPENED);
-    let active = short_at(x, ACTIVE);
-    let open_limit = short_at(x, OPEN_LIMIT);
-    let active_limit = short_at(x, ACTIVE_LIMIT);
     Account {
-        opened,
-        active,
-        open_limit,
-        active_limit,
+        opened: short_at(x, OPENED),
+        active: short_at(x, ACTIVE),
+        open_limit: short_at(x, OPEN_LIMIT),
+        active_limit: short_at(x, ACTIVE_LIMIT),
     }
 }
 
 // The mount value that possible words hold.
+#[tactic(auto, unfolding(crate::specs::Words::mount_from))]
 pub fn mount_from(w: &[u64], x: &[u64]) -> Mount
     requires { (mount_length ≤ length w.now) × (account_length ≤ length x.now) }
     ensures { result ≡ mount_from w.now x.now }
 {
-    let volume = volume_from(w);
-    let account = account_from(x);
     Mount {
-        volume,
+        volume: volume_from(w),
         readonly: w[READONLY] != 0,
-        account,
+        account: account_from(x),
     }
 }
 
@@ -188,26 +173,23 @@ fn uuid_word(uuid: [u8; 16], at: usize) -> u64
     wire::u64_at(&uuid, at)
 }
 
+// Each word under its place's name, since the C interface fixes the places: an array in order would show less.
 fn put_volume(w: &mut [u64], v: Volume)
     requires { mount_length ≤ length w.old }
     ensures { w.new ≡ sets w.old 0 (volume_words v) }
 {
-    let policy = v.policy;
-    let uuid = v.uuid;
-    let code = codes::policy_code(policy);
-    let low = uuid_word(uuid, 0);
-    let high = uuid_word(uuid, 8);
     w[BLOCK] = v.block;
     w[CONVENTIONAL] = v.conventional as u64;
     w[SEQUENTIAL] = v.sequential as u64;
     w[OWNER] = v.owner as u64;
     w[GROUP] = v.group as u64;
     w[MODE] = v.mode as u64;
-    w[POLICY] = code;
-    w[UUID_LOW] = low;
-    w[UUID_HIGH] = high;
+    w[POLICY] = u64::from(v.policy);
+    w[UUID_LOW] = uuid_word(v.uuid, 0);
+    w[UUID_HIGH] = uuid_word(v.uuid, 8);
 }
 
+#[tactic(auto, unfolding(crate::specs::Words::with_state))]
 fn put_mark(w: &mut [u64], m: Mount)
     requires { mount_length ≤ length w.old }
     ensures { w.new ≡ with_state w.old m }
@@ -215,6 +197,7 @@ fn put_mark(w: &mut [u64], m: Mount)
     w[READONLY] = codes::flag_code(m.readonly);
 }
 
+#[tactic(auto, unfolding(crate::specs::Words::with_counts))]
 fn put_counts(x: &mut [u64], account: Account)
     requires { account_length ≤ length x.old }
     ensures { x.new ≡ with_counts x.old account }
@@ -224,13 +207,13 @@ fn put_counts(x: &mut [u64], account: Account)
 }
 
 // Puts the state of a mount value into its words, the mark and both counts; those of what the mount fixes stand as they were.
+// It stays beside `put_all`: a call leaves the words of what the mount fixes (`with_state` of the specs).
 pub fn put_state(w: &mut [u64], x: &mut [u64], m: Mount)
     requires { (mount_length ≤ length w.old) × (account_length ≤ length x.old) }
     ensures { (with_state w.old m ≡ w.new) × (with_counts x.old m.account ≡ x.new) }
 {
-    let account = m.account;
     put_mark(w, m);
-    put_counts(x, account);
+    put_counts(x, m.account);
 }
 
 // Puts a mount value into the words, whatever stands there.
@@ -238,14 +221,13 @@ pub fn put_mount(w: &mut [u64], m: Mount)
     requires { mount_length ≤ length w.old }
     ensures { w.new ≡ written w.old (mount_words m) }
 {
-    let v = m.volume;
-    let explicit = codes::flag_code(v.explicit);
-    put_volume(w, v);
+    put_volume(w, m.volume);
     put_mark(w, m);
-    w[EXPLICIT] = explicit;
+    w[EXPLICIT] = codes::flag_code(m.volume.explicit);
 }
 
 // Puts an account into the words, whatever stands there.
+#[tactic(auto, unfolding(crate::specs::Words::with_counts, crate::specs::Words::account_words, answer_words::specs::Answers::written))]
 pub fn put_account(x: &mut [u64], account: Account)
     requires { account_length ≤ length x.old }
     ensures { x.new ≡ written x.old (account_words account) }
@@ -260,7 +242,6 @@ pub fn put_all(w: &mut [u64], x: &mut [u64], m: Mount)
     requires { (mount_length ≤ length w.old) × (account_length ≤ length x.old) }
     ensures { (written w.old (mount_words m) ≡ w.new) × (written x.old (account_words m.account) ≡ x.new) }
 {
-    let account = m.account;
     put_mount(w, m);
-    put_account(x, account);
+    put_account(x, m.account);
 }

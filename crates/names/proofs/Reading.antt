@@ -5,23 +5,21 @@ use native.Mathlib.Omega.{arith}
 use native.Mathlib.Decide.{dec_le}
 use native.Mathlib.Numerals.{add-one}
 use mathlib.Core.Path.{◌≡◌, refl, sym, ◌∙◌, ap}
-use mathlib.Core.Bool.{true, false, ◌&&◌, ◌||◌, false≢true}
+use mathlib.Core.Bool.{true, false, ◌&&◌, false≢true}
 use mathlib.Core.List.{List, [], ◌∷◌, ◌++◌}
 use lib.ListN.{length, get_or, take, drop, take-append-drop}
 use lib.Seq.{take-suc, take-length, get_or-take}
 use lib.Dec.{ltb, eqb}
-use borrow.Author.Tests.{ltb-true, ltb-false, lt-ltb, le-ltb, eqb-true, eqb-false}
+use Rattle.std.specs.Char.{is_ascii_digit}
+use borrow.Author.Tests.{ltb-true, lt-ltb, le-leb, eqb-true, eqb-false}
 use Rattle.types.specs.Blocks.{most_files}
-use Rattle.types.proofs.Tests.{and_left, and_right, or_left, or_right}
+use Rattle.types.proofs.Tests.{both, and_left, and_right}
 use Rattle.text.specs.Text.{digit_byte, digits_of, decimal}
 use Rattle.text.proofs.Decimal.{IsDigit, decimal-one, decimal_more, decimal_some, decimal_digit, decimal_first, value_from, value_append, value_grows, decimal_value}
 
--- a digit, as the code tests it
-pub a_digit_tested : (b : ℕ) → ltb b 48 || ltb 57 b ≡ false → IsDigit b
-a_digit_tested b h = record { low = ltb-false b 48 (or_left (ltb b 48) (ltb 57 b) h); high = ltb-false 57 b (or_right (ltb b 48) (ltb 57 b) h) }
-
-pub no_digit_tested : (b : ℕ) → ltb b 48 || ltb 57 b ≡ true → IsDigit b → ⊥
-no_digit_tested b h d = false≢true (simp (le-ltb b 48 d.low, le-ltb 57 b d.high) at h)
+-- what the library tests for no digit is none
+pub no_digit_tested : (b : ℕ) → is_ascii_digit b ≡ false → IsDigit b → ⊥
+no_digit_tested b h d = false≢true (sym h ∙ both (le-leb 48 b d.low) (le-leb b 57 d.high))
 
 -- the first i bytes of a text are the decimal of a value, and there is none of no byte
 pub record ReadTo (text : List ℕ) (i value : ℕ) : Type 0 where

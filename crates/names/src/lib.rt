@@ -9,77 +9,47 @@ use types::FileKind;
 // The bytes of `cnv/` and of `seq/`.
 const PREFIX_BYTES: usize = 4;
 
-// What a name says: a file, or nothing.
-#[derive(Clone, Copy)]
-pub enum Name {
-    Found(FileKind, u32),
-    Nothing,
-}
-
-// What the first four bytes of a name say.
-#[derive(Clone, Copy)]
-enum KindRead {
-    Is(FileKind),
-    Nothing,
-}
-
-// What the rest of a name says.
-#[derive(Clone, Copy)]
-enum NumberRead {
-    Is(u32),
-    Nothing,
-}
-
-fn kind_read(a: u8, b: u8, c: u8, d: u8) -> KindRead
-    ensures { KindTells (a ∷ b ∷ c ∷ d ∷ []) result }
+// The kind that the first four bytes of a name tell.
+fn kind_read(bytes: &[u8]) -> Option<FileKind>
+    ensures { KindTells bytes.now result }
 {
-    if (a == b'c') & (b == b'n') & (c == b'v') & (d == b'/') {
-        KindRead::Is(FileKind::Conventional)
-    } else if (a == b's') & (b == b'e') & (c == b'q') & (d == b'/') {
-        KindRead::Is(FileKind::Sequential)
-    } else {
-        KindRead::Nothing
+    match bytes {
+        b"cnv/" => Some(FileKind::Conventional),
+        b"seq/" => Some(FileKind::Sequential),
+        _ => None,
     }
 }
 
 // The number of a decimal. It stops at the first byte that makes it one of no file: no more than six bytes are read, however long the text is.
-fn number_read(text: &[u8]) -> NumberRead
+fn number_read(text: &[u8]) -> Option<u32>
     ensures { NumberTells text.now result }
 {
     let mut value: u32 = 0;
-    let mut i: usize = 0;
-    while i < text.len() {
-        let byte = text[i];
-        if (byte < b'0') | (b'9' < byte) {
-            return NumberRead::Nothing;
+    for (i, &byte) in text.iter().enumerate() {
+        if !byte.is_ascii_digit() {
+            return None;
         }
         // a leading zero
         if (0 < i) & (value == 0) {
-            return NumberRead::Nothing;
+            return None;
         }
-        value = value * 10 + ((byte - b'0') as u32);
+        value = value * 10 + u32::from(byte - b'0');
         if types::units::MOST_FILES <= value {
-            return NumberRead::Nothing;
+            return None;
         }
-        i += 1;
     }
-    if i == 0 {
-        return NumberRead::Nothing;
+    if text.is_empty() {
+        return None;
     }
-    NumberRead::Is(value)
+    Some(value)
 }
 
-pub fn name_read(name: &[u8]) -> Name
+// What a name says: a file, or nothing.
+pub fn name_read(name: &[u8]) -> Option<(FileKind, u32)>
     ensures { NameTells name.now result }
 {
-    if name.len() < PREFIX_BYTES {
-        return Name::Nothing;
-    }
-    let KindRead::Is(kind) = kind_read(name[0], name[1], name[2], name[3]) else {
-        return Name::Nothing;
-    };
-    let NumberRead::Is(number) = number_read(&name[PREFIX_BYTES..]) else {
-        return Name::Nothing;
-    };
-    Name::Found(kind, number)
+    let (prefix, digits) = name.split_at_checked(PREFIX_BYTES)?;
+    let kind = kind_read(prefix)?;
+    let number = number_read(digits)?;
+    Some((kind, number))
 }

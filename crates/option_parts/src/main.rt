@@ -3,132 +3,63 @@
 // one first. The gate runs it beside the reference program on the same texts.
 #![tactic(auto)]
 
-ghost use Rattle.std.specs.Prelude.{◌≤◌, length as len};
-
-use options::Options;
+use options::Asked;
 use options::reading::Reading;
 use std::io;
 use std::io::{ErrorKind, Read};
 use types::Refusal;
 
-// A number of the input, or that it ended.
-#[derive(Clone, Copy)]
-enum Number {
-    Is(usize),
-    Ended,
-}
+// Room for every length that two bytes can say.
+const ROOM: usize = 65536;
 
-// What was read of a text, or that the input ended within it, or has a part that is longer than the room for it.
-#[derive(Clone, Copy)]
-enum Text {
-    Read(Reading),
-    Ended,
-}
-
-fn number_of(low: u8, high: u8) -> usize {
-    low as usize + 256 * (high as usize)
-}
-
-// Fills `bytes` from the input. Answers whether there were as many.
-fn read_full<R: Read>(input: &mut R, bytes: &mut [u8]) -> io::Result<bool> {
-    match input.read_exact(bytes) {
-        Ok(()) => Ok(true),
-        Err(e) => {
-            if e.kind() == ErrorKind::UnexpectedEof {
-                Ok(false)
-            } else {
-                Err(e)
-            }
-        }
-    }
-}
-
-fn next_number<R: Read>(input: &mut R) -> io::Result<Number> {
+fn next_number<R: Read>(input: &mut R) -> io::Result<u16> {
     let mut bytes = [0u8; 2];
-    if read_full(input, &mut bytes)? {
-        Ok(Number::Is(number_of(bytes[0], bytes[1])))
-    } else {
-        Ok(Number::Ended)
-    }
+    input.read_exact(&mut bytes)?;
+    Ok(u16::from_le_bytes(bytes))
 }
 
-// A part that is the first `length` bytes, of which there are so many.
-fn take_first(reading: Reading, bytes: &[u8], length: usize) -> Reading
-    requires { length ≤ len bytes.now }
-{
-    options::reading::part(reading, &bytes[..length])
+// Reads one part into `space` and answers its bytes, or `UnexpectedEof` where the input ends before that.
+// `checksums` reads an input alike: a library for these few lines would be longer than they are.
+fn next_part<'a, R: Read>(input: &mut R, space: &'a mut [u8; ROOM]) -> io::Result<&'a [u8]> {
+    let part = &mut space[..usize::from(next_number(input)?)];
+    input.read_exact(part)?;
+    Ok(part)
 }
 
-// One part more, by way of `space`.
-fn take_part<R: Read>(input: &mut R, reading: Reading, space: &mut [u8]) -> io::Result<Text> {
-    let Number::Is(length) = next_number(input)? else {
-        return Ok(Text::Ended);
-    };
-    if space.len() < length {
-        return Ok(Text::Ended);
-    }
-    if !read_full(input, &mut space[..length])? {
-        return Ok(Text::Ended);
-    }
-    Ok(Text::Read(take_first(reading, space, length)))
-}
-
-// A text of so many parts.
-fn take_text<R: Read>(input: &mut R, parts: usize, space: &mut [u8]) -> io::Result<Text> {
+// Reads one text, part after part, by way of `space`.
+fn next_text<R: Read>(input: &mut R, space: &mut [u8; ROOM]) -> io::Result<Reading> {
     let mut reading = options::reading::start();
-    for _ in 0..parts {
-        let Text::Read(next) = take_part(input, reading, space)? else {
-            return Ok(Text::Ended);
-        };
-        reading = next;
+    for _ in 0..next_number(input)? {
+        reading = options::reading::part(reading, next_part(input, space)?);
     }
-    Ok(Text::Read(reading))
+    Ok(reading)
 }
 
-fn print_number(rt: &impl Print, n: u64) -> io::Result<()> {
-    print!(rt; "{n}")
-}
-
-fn print_options(rt: &impl Print, options: Options) -> io::Result<()> {
-    match options {
-        Options::Good(asked) => {
-            let policy = asked.policy;
-            print!(rt; "0 ")?;
-            print_number(rt, types::codes::policy_code(policy))?;
-            print!(rt; " ")?;
-            print_number(rt, asked.explicit as u64)?;
+fn print_options(rt: &impl Print, asked: Option<Asked>) -> io::Result<()> {
+    match asked {
+        Some(asked) => {
+            let policy = u64::from(asked.policy);
+            println!(rt; "0 {policy} {}", asked.explicit as u64)
         }
-        Options::Bad => {
+        None => {
             let code = types::answers::refusal_code(Refusal::BadOptions);
-            print_number(rt, code.number)?;
+            println!(rt; "{}", code.number)
         }
     }
-    println!(rt)
-}
-
-// Reads one text and prints what it asks for. Answers whether there was one.
-fn print_next<R: Read>(rt: &impl Print, input: &mut R, space: &mut [u8]) -> io::Result<bool> {
-    let Number::Is(parts) = next_number(input)? else {
-        return Ok(false);
-    };
-    let Text::Read(reading) = take_text(input, parts, space)? else {
-        return Ok(false);
-    };
-    print_options(rt, options::reading::end(reading))?;
-    Ok(true)
 }
 
 // A proved loop has to end, and nothing says that the input does: the loop takes as many turns as no run uses up.
-fn print_all<R: Read>(rt: &impl Print, input: &mut R, space: &mut [u8]) -> io::Result<()> {
+fn print_all<R: Read>(rt: &impl Print, input: &mut R, space: &mut [u8; ROOM]) -> io::Result<()> {
     for _ in 0..u64::MAX {
-        if !print_next(rt, input, space)? {
-            break;
+        match next_text(input, space) {
+            Ok(reading) => print_options(rt, options::reading::end(reading))?,
+            Err(e) if e.kind() == ErrorKind::UnexpectedEof => break,
+            Err(e) => return Err(e),
         }
     }
     Ok(())
 }
 
 fn main(rt: HostRuntime) -> io::Result<()> {
-    let mut space = [0u8; 65536];
-    print_all(&rt, &mut rt.stdin(), &mut space)
+    print_all(&rt, &mut rt.stdin(), &mut [0u8; ROOM])
 }

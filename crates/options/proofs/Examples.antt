@@ -1,5 +1,6 @@
 -- Worked examples of texts and their options, computed from the definitions.
 -- Assumes nothing.
+use Rattle.std.specs.Prelude.{Some, None}
 use Prim.Native.Nat.{ℕ}
 use mathlib.Core.Bool.{Bool, true, false}
 use mathlib.Core.Path.{◌≡◌, refl}
@@ -7,8 +8,7 @@ use mathlib.Core.List.{List, [], ◌∷◌, ◌++◌, map}
 use lib.ListN.{replicate}
 use Rattle.types.specs.declared.ErrorPolicy.{ErrorPolicy}
 use Rattle.types.specs.declared.ErrorPolicy.TheVariants.{RemountRo, ZoneRo, ZoneOffline, Repair}
-use Rattle.options.specs.declared.Options.{Options}
-use Rattle.options.specs.declared.Options.TheVariants.{Good, Bad}
+use Rattle.options.specs.Options.{Options}
 use Rattle.text.specs.Text.{ascii, same}
 use Rattle.options.specs.Options.{comma, split, skip_empty, piece_of, options_of}
 
@@ -18,7 +18,7 @@ record Example : Type 0 where
 
 -- a good text: its policy, and whether it asks for opens by hand
 abbrev good : ErrorPolicy → Bool → Options
-good policy explicit = Good (record { policy = policy; explicit = explicit })
+good policy explicit = Some (record { policy = policy; explicit = explicit })
 
 abbrev examples : List Example
 examples =
@@ -28,36 +28,36 @@ examples =
     ∷ record { text = ascii "errors=zone-offline"; answer = good ZoneOffline false }
     ∷ record { text = ascii "errors=repair,errors=zone-ro"; answer = good ZoneRo false }
     ∷ record { text = ascii ",errors=zone-ro,,errors=repair,"; answer = good Repair false }
-    ∷ record { text = ascii "errors=repair "; answer = Bad }
-    ∷ record { text = ascii "Errors=repair"; answer = Bad }
-    ∷ record { text = ascii "errors="; answer = Bad }
-    ∷ record { text = ascii "repair"; answer = Bad }
-    ∷ record { text = ascii "errors=repai"; answer = Bad }
-    ∷ record { text = ascii "quota,errors=repair"; answer = Bad }
+    ∷ record { text = ascii "errors=repair "; answer = None }
+    ∷ record { text = ascii "Errors=repair"; answer = None }
+    ∷ record { text = ascii "errors="; answer = None }
+    ∷ record { text = ascii "repair"; answer = None }
+    ∷ record { text = ascii "errors=repai"; answer = None }
+    ∷ record { text = ascii "quota,errors=repair"; answer = None }
     ∷ record { text = replicate 242 comma ++ ascii "errors=repair"; answer = good Repair false }
-    ∷ record { text = replicate 243 comma ++ ascii "errors=repair"; answer = Bad }
+    ∷ record { text = replicate 243 comma ++ ascii "errors=repair"; answer = None }
     ∷ record { text = ascii "explicit-open"; answer = good RemountRo true }
     ∷ record { text = ascii ",explicit-open,,explicit-open,"; answer = good RemountRo true }
     ∷ record { text = ascii "explicit-open,errors=repair"; answer = good Repair true }
     ∷ record { text = ascii "errors=zone-ro,explicit-open"; answer = good ZoneRo true }
     ∷ record { text = ascii "errors=repair,explicit-open,errors=zone-offline,explicit-open,errors=zone-ro"; answer = good ZoneRo true }
-    ∷ record { text = ascii "explicit-opem"; answer = Bad }
-    ∷ record { text = ascii "Explicit-open"; answer = Bad }
-    ∷ record { text = ascii "explicit_open"; answer = Bad }
-    ∷ record { text = ascii "explicit-ope"; answer = Bad }
-    ∷ record { text = ascii "explicit"; answer = Bad }
-    ∷ record { text = ascii "explicit-open "; answer = Bad }
-    ∷ record { text = ascii " explicit-open"; answer = Bad }
-    ∷ record { text = ascii "explicit-open=1"; answer = Bad }
-    ∷ record { text = ascii "errors=explicit-open"; answer = Bad }
-    ∷ record { text = ascii "explicit-open,quota"; answer = Bad }
-    ∷ record { text = ascii "explicit-open,errors=repair,errors="; answer = Bad }
-    ∷ record { text = ascii "explicit-openerrors=repair"; answer = Bad }
-    ∷ record { text = ascii "errors=zone-offro"; answer = Bad }
-    ∷ record { text = ascii "errors=repairount-ro"; answer = Bad }
-    ∷ record { text = ascii "errors=zone-,errors=zone-ro"; answer = Bad }
-    ∷ record { text = ascii "errors=repair" ++ (0 ∷ []); answer = Bad }
-    ∷ record { text = ascii "errors=repair," ++ (200 ∷ []); answer = Bad }
+    ∷ record { text = ascii "explicit-opem"; answer = None }
+    ∷ record { text = ascii "Explicit-open"; answer = None }
+    ∷ record { text = ascii "explicit_open"; answer = None }
+    ∷ record { text = ascii "explicit-ope"; answer = None }
+    ∷ record { text = ascii "explicit"; answer = None }
+    ∷ record { text = ascii "explicit-open "; answer = None }
+    ∷ record { text = ascii " explicit-open"; answer = None }
+    ∷ record { text = ascii "explicit-open=1"; answer = None }
+    ∷ record { text = ascii "errors=explicit-open"; answer = None }
+    ∷ record { text = ascii "explicit-open,quota"; answer = None }
+    ∷ record { text = ascii "explicit-open,errors=repair,errors="; answer = None }
+    ∷ record { text = ascii "explicit-openerrors=repair"; answer = None }
+    ∷ record { text = ascii "errors=zone-offro"; answer = None }
+    ∷ record { text = ascii "errors=repairount-ro"; answer = None }
+    ∷ record { text = ascii "errors=zone-,errors=zone-ro"; answer = None }
+    ∷ record { text = ascii "errors=repair" ++ (0 ∷ []); answer = None }
+    ∷ record { text = ascii "errors=repair," ++ (200 ∷ []); answer = None }
     ∷ []
 
 -- each text has the answer that stands beside it

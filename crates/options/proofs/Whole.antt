@@ -1,5 +1,6 @@
 -- The claim: a text that is read byte after byte gives what the definition says of its pieces.
 -- Assumes nothing.
+use Rattle.std.specs.Prelude.{Some, None}
 use Prim.Native.Nat.{ℕ, suc, ◌+◌, ◌≤◌, ◌<◌}
 use native.Mathlib.Omega.{arith}
 use mathlib.Core.Bool.{Bool, true, false, cond}
@@ -8,8 +9,7 @@ use mathlib.Core.List.{List, [], ◌∷◌, ◌++◌, append-nil, append_assoc, 
 use lib.ListN.{length, length-append, take, drop, take-append-drop}
 use lib.Dec.{leb, eqb, eqb-suc-zero}
 use borrow.Author.Tests.{le-leb, lt-leb, leb-true, leb-false, eqb-false}
-use Rattle.options.specs.declared.Options.{Options}
-use Rattle.options.specs.declared.Options.TheVariants.{Good, Bad}
+use Rattle.options.specs.Options.{Options}
 use Rattle.options.specs.declared.reading.Reading.{Reading}
 use Rattle.options.specs.Options.{most_bytes, comma, in_front, split, skip_empty, piece_of, after_piece, after_pieces, by_default, options_of}
 use Rattle.options.specs.Reading.{words, piece_among, and_piece, counted, started, piece_ended, next_piece, one_more, byte_taken, part_taken, answered, ReadInParts}
@@ -53,8 +53,8 @@ holding before p n = record { bytes = n; candidates = beginning p words; place =
 -- the list of words says what the definition's tests say
 same_piece : (before : Options) (p : List ℕ) → and_piece before (piece_among words p) ≡ after_piece before p
 unfolding words piece_among piece_of
-same_piece Bad p = refl
-same_piece (Good a) p = refl
+same_piece None p = refl
+same_piece (Some a) p = refl
 
 ended : (before : Options) (p : List ℕ) (n : ℕ) → (next_piece (holding before p n)).so_far ≡ after_pieces before (p ∷ [])
 unfolding piece_ended holding skip_empty
@@ -115,24 +115,24 @@ unfolding part_taken
 too_many r [] h = omega arith
 too_many r (x ∷ xs) h = too_many (byte_taken r x) xs (rw (byte_counted r x) (still_above r.bytes (length xs) h))
 
-refused : (r : Reading) → most_bytes < r.bytes → answered r ≡ Bad
+refused : (r : Reading) → most_bytes < r.bytes → answered r ≡ None
 unfolding answered
 refused r h = rw (lt-leb r.bytes most_bytes h)
 
 -- ---- the whole text
 
-started-holding : started ≡ holding (Good by_default) [] 0
+started-holding : started ≡ holding (Some by_default) [] 0
 unfolding holding
 started-holding = rw begun
 
 reads_whole : (text : List ℕ) → answered (part_taken started text) ≡ options_of text
 unfolding options_of
 reads_whole text = by (leb (length text) most_bytes) refl where
-  by : (t : Bool) → leb (length text) most_bytes ≡ t → answered (part_taken started text) ≡ cond t (after_pieces (Good by_default) (split text)) Bad
+  by : (t : Bool) → leb (length text) most_bytes ≡ t → answered (part_taken started text) ≡ cond t (after_pieces (Some by_default) (split text)) None
   by true e =
       ap (λ (r : Reading). answered (part_taken r text)) started-holding
-      ∙ reads_on (Good by_default) [] 0 text (omega (arith, leb-true (length text) most_bytes e)) (omega arith)
-      ∙ ap (after_pieces (Good by_default)) (nothing_more text)
+      ∙ reads_on (Some by_default) [] 0 text (omega (arith, leb-true (length text) most_bytes e)) (omega arith)
+      ∙ ap (after_pieces (Some by_default)) (nothing_more text)
   by false e = refused (part_taken started text) (too_many started text (omega (arith, leb-false (length text) most_bytes e)))
 
 pub reads_in_parts : ReadInParts

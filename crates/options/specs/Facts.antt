@@ -1,5 +1,6 @@
--- What the functions over the words ask for. No outcome is defined here.
+-- The words as the code has them. No outcome is defined here.
 use Rattle.std.specs.Prelude.{ℕ, ◌-◌, List, ◌++◌, map, length, replicate}
+use Rattle.options.specs.declared.reading.Word as code
 use Rattle.options.specs.Options.{comma}
 use Rattle.options.specs.Reading.{Word, words}
 
@@ -7,9 +8,9 @@ use Rattle.options.specs.Reading.{Word, words}
 abbrev pub row_bytes : ℕ
 row_bytes = 20
 
--- the words as the code has them: each with as many commas behind it as make it that long
-abbrev pub word_row : Word → List ℕ
-word_row w = w.text ++ replicate (row_bytes - length w.text) comma
+-- each has as many commas behind it as make it that long
+abbrev pub word_row : Word → code.Word
+word_row w = record { text = w.text ++ replicate (row_bytes - length w.text) comma; asks = w.asks }
 
-unfoldable pub word_table : List (List ℕ)
+unfoldable pub word_table : List code.Word
 word_table = map word_row words

@@ -1,14 +1,13 @@
 -- 02, K3: "read it in a single pass, a step to each byte that holds only a few numbers: handed over in two parts, cut anywhere, it gets the same answer
 -- as whole". What one byte does, and the claim that this comes to what `Options` says.
-use Rattle.std.specs.Prelude.{ℕ, ◌+◌, ◌-◌, ◌*◌, ◌/◌, ◌%◌, ◌^◌, Bool, cond, ◌≡◌, length, get_or, take, drop, leb, eqb}
+use Rattle.std.specs.Prelude.{ℕ, ◌+◌, ◌-◌, ◌*◌, ◌/◌, ◌%◌, ◌^◌, Bool, cond, ◌≡◌, length, get_or, take, drop, leb, eqb, Option, Some, None}
 use Prim.Native.String.{String}
 use mathlib.Core.List.{List, [], ◌∷◌, ◌++◌, foldl, flatten}
 use Rattle.std.specs.Int.Bits.{bit_and}
 use Rattle.text.specs.Text.{ascii, same}
 use Rattle.types.specs.declared.ErrorPolicy.TheVariants.{RemountRo, ZoneRo, ZoneOffline, Repair}
 use Rattle.types.specs.Codes.{flag_code}
-use Rattle.options.specs.declared.Options.{Options}
-use Rattle.options.specs.declared.Options.TheVariants.{Good, Bad}
+use Rattle.options.specs.Options.{Options}
 use Rattle.options.specs.declared.Piece.{Piece}
 use Rattle.options.specs.declared.Piece.TheVariants as piece
 use Rattle.options.specs.declared.reading.Reading.{Reading}
@@ -35,14 +34,14 @@ words =
     ∷ []
 
 -- what the first of these words asks for that the text is, or that it is none of them
-unfoldable pub piece_among : List Word → List ℕ → Piece
-piece_among [] text = piece.Bad
-piece_among (w ∷ ws) text = cond (same text w.text) w.asks (piece_among ws text)
+unfoldable pub piece_among : List Word → List ℕ → Option Piece
+piece_among [] text = None
+piece_among (w ∷ ws) text = cond (same text w.text) (Some w.asks) (piece_among ws text)
 
 -- where no piece is bad: a text that had a bad piece stays bad, whatever follows
-abbrev pub and_piece : Options → Piece → Options
-and_piece Bad p = Bad
-and_piece (Good a) p = with_piece a p
+abbrev pub and_piece : Options → Option Piece → Options
+and_piece None p = None
+and_piece (Some a) p = with_piece a p
 
 -- ---- "a few numbers", which are the fields of `Reading`
 
@@ -64,7 +63,7 @@ all_words = 2 ^ length words - 1
 
 -- before the first byte of the text
 abbrev pub started : Reading
-started = record { bytes = 0; candidates = all_words; place = 0; so_far = Good by_default }
+started = record { bytes = 0; candidates = all_words; place = 0; so_far = Some by_default }
 
 -- ---- one byte: the same rule for each word
 
@@ -82,9 +81,9 @@ abbrev pub going_on : Reading → ℕ → ℕ
 going_on r b = bit_and r.candidates (having b r.place words)
 
 -- what the first word of a set asks for
-unfoldable pub piece_in : List Word → ℕ → Piece
-piece_in [] set = piece.Bad
-piece_in (w ∷ ws) set = cond (has_first set) w.asks (piece_in ws (others set))
+unfoldable pub piece_in : List Word → ℕ → Option Piece
+piece_in [] set = None
+piece_in (w ∷ ws) set = cond (has_first set) (Some w.asks) (piece_in ws (others set))
 
 -- what is asked for with a piece more, which has so many bytes and is each word of this set. "empty pieces skipped"
 unfoldable pub piece_ended : Options → ℕ → ℕ → Options
@@ -124,7 +123,7 @@ parts_taken r parts = foldl part_taken r parts
 
 -- ---- the end of the text, which ends the last piece as a comma does: "up to 255 bytes"
 unfoldable pub answered : Reading → Options
-answered r = cond (leb r.bytes most_bytes) (next_piece r).so_far Bad
+answered r = cond (leb r.bytes most_bytes) (next_piece r).so_far None
 
 -- THE CLAIM, for every text of any bytes and any length (the law `reads_in_parts`).
 pub record ReadInParts : Type 0 where

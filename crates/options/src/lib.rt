@@ -3,8 +3,8 @@
 
 pub mod reading; // the text in a single pass, in parts cut anywhere
 
-ghost use Rattle.std.specs.Prelude.{◌≡◌, [], ◌∷◌, ℕ, ◌≤◌, ◌<◌, length, get_or};
-ghost use Rattle.options.specs.Options.{comma, asks, piece_of, with_piece, after_pieces, options_of};
+ghost use Rattle.std.specs.Prelude.{◌≡◌, [], ◌∷◌};
+ghost use Rattle.options.specs.Options.{piece_of, with_piece, after_pieces, options_of};
 
 use text::same_text;
 use types::ErrorPolicy;
@@ -19,113 +19,68 @@ pub struct Asked {
     pub explicit: bool,
 }
 
-// What a text of options asks for, or that it is no such text.
-#[derive(Clone, Copy)]
-pub enum Options {
-    Good(Asked),
-    Bad,
-}
-
-// What one piece of it asks for, or that it is no option.
+// What one piece of it asks for.
 #[derive(Clone, Copy)]
 enum Piece {
     Policy(ErrorPolicy),
     ExplicitOpen,
-    Bad,
 }
 
-// One option: what it asks for where it is the piece, else what the others find.
-fn asks(piece: &[u8], option: &[u8], asked: Piece, rest: Piece) -> Piece
-    ensures { result ≡ asks piece.now option.now asked rest }
+// What a piece that isn't empty asks for, or that it is no option.
+// A `match` on the texts was tried: it tests them byte by byte, with a goal for each, and its proof didn't close.
+#[tactic(auto, unfolding(crate::specs::Options::piece_of))]
+fn piece_of(piece: &[u8]) -> Option<Piece>
+    ensures { result ≡ piece_of piece.now }
 {
-    if same_text(piece, option) {
-        asked
+    if same_text(piece, b"errors=remount-ro") {
+        Some(Piece::Policy(ErrorPolicy::RemountRo))
+    } else if same_text(piece, b"errors=zone-ro") {
+        Some(Piece::Policy(ErrorPolicy::ZoneRo))
+    } else if same_text(piece, b"errors=zone-offline") {
+        Some(Piece::Policy(ErrorPolicy::ZoneOffline))
+    } else if same_text(piece, b"errors=repair") {
+        Some(Piece::Policy(ErrorPolicy::Repair))
+    } else if same_text(piece, b"explicit-open") {
+        Some(Piece::ExplicitOpen)
     } else {
-        rest
+        None
     }
 }
 
-// What a piece that isn't empty asks for. The last option comes first: each is handed what those after it find.
-fn piece_of(piece: &[u8]) -> Piece
-    ensures { result ≡ piece_of piece.now }
-{
-    let rest = Piece::Bad;
-    let rest = asks(piece, b"explicit-open", Piece::ExplicitOpen, rest);
-    let asked = Piece::Policy(ErrorPolicy::Repair);
-    let rest = asks(piece, b"errors=repair", asked, rest);
-    let asked = Piece::Policy(ErrorPolicy::ZoneOffline);
-    let rest = asks(piece, b"errors=zone-offline", asked, rest);
-    let asked = Piece::Policy(ErrorPolicy::ZoneRo);
-    let rest = asks(piece, b"errors=zone-ro", asked, rest);
-    let asked = Piece::Policy(ErrorPolicy::RemountRo);
-    asks(piece, b"errors=remount-ro", asked, rest)
-}
-
 // What is asked for, with one piece more.
-fn with_piece(asked: Asked, piece: Piece) -> Options
+fn with_piece(asked: Asked, piece: Option<Piece>) -> Option<Asked>
     ensures { result ≡ with_piece asked piece }
 {
-    match piece {
-        Piece::Policy(policy) => Options::Good(Asked {
-            policy,
-            explicit: asked.explicit,
+    match piece? {
+        Piece::Policy(policy) => Some(Asked { policy, ..asked }),
+        Piece::ExplicitOpen => Some(Asked {
+            explicit: true,
+            ..asked
         }),
-        Piece::ExplicitOpen => {
-            let policy = asked.policy;
-            Options::Good(Asked {
-                policy,
-                explicit: true,
-            })
-        }
-        Piece::Bad => Options::Bad,
     }
 }
 
 // The options after one more piece.
-fn after_piece(so_far: Options, piece: &[u8]) -> Options
+fn after_piece(so_far: Option<Asked>, piece: &[u8]) -> Option<Asked>
     ensures { result ≡ after_pieces so_far (piece.now ∷ []) }
 {
-    if piece.len() == 0 {
+    if piece.is_empty() {
         return so_far;
     }
-    match so_far {
-        Options::Good(asked) => with_piece(asked, piece_of(piece)),
-        Options::Bad => Options::Bad,
-    }
+    with_piece(so_far?, piece_of(piece))
 }
 
-// The length of the first piece: up to the first comma, or all of the text.
-fn piece_length(text: &[u8]) -> usize
-    ensures within { result ≤ length text.now }
-    ensures before { (k : ℕ) → k < result → get_or text.now k 0 ≡ comma → ⊥ }
-    ensures found { result < length text.now → get_or text.now result 0 ≡ comma }
-{
-    let mut i = 0;
-    while i < text.len() {
-        if text[i] == b',' {
-            return i;
-        }
-        i += 1;
-    }
-    i
-}
-
-// The options of a text. Each turn takes a piece and the comma after it.
-pub fn read_options(text: &[u8]) -> Options
+// What a text of options asks for, or that it is no such text. Its pieces stand between its commas.
+#[tactic(auto, unfolding(crate::specs::Options::options_of))]
+pub fn read_options(text: &[u8]) -> Option<Asked>
     ensures { result ≡ options_of text.now }
 {
     if text.len() > MOST_BYTES {
-        return Options::Bad;
+        return None;
     }
-    let mut so_far = Options::Good(Asked {
+    let by_default = Asked {
         policy: ErrorPolicy::RemountRo,
         explicit: false,
-    });
-    let mut at = 0;
-    while at <= text.len() {
-        let end = at + piece_length(&text[at..]);
-        so_far = after_piece(so_far, &text[at..end]);
-        at = end + 1;
-    }
-    so_far
+    };
+    text.split(|&b| b == b',').fold(Some(by_default), |so_far, piece| after_piece(so_far, piece))
 }

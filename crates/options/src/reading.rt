@@ -2,35 +2,45 @@
 ghost use Rattle.std.specs.Prelude.{◌≡◌, get_or};
 ghost use Rattle.options.specs.Options.{comma};
 ghost use Rattle.options.specs.Reading.{words, and_piece, counted, started, having, piece_in, piece_ended, byte_taken, part_taken, answered};
-ghost use Rattle.options.specs.Facts.{word_table};
 
-use crate::{Asked, MOST_BYTES, Options, Piece, with_piece};
+use crate::{Asked, MOST_BYTES, Piece, with_piece};
 use types::ErrorPolicy;
 
-// The words that a piece may be. A word more is its line in both tables, and this number.
+// The words that a piece may be. A word more is its line in the table, and this number.
 const WORDS: usize = 5;
 
 // The most bytes of a word.
-const ROW_BYTES: usize = 20;
+const WORD_BYTES: usize = 20;
 
-// The words' bytes, with commas behind those of each.
-type Texts = [[u8; ROW_BYTES]; WORDS];
+// A word: its bytes, with commas behind them, and what it asks for.
+#[derive(Clone, Copy)]
+struct Word {
+    text: [u8; WORD_BYTES],
+    asks: Piece,
+}
 
-const TEXTS: Texts = [
-    *b"errors=remount-ro,,,",
-    *b"errors=zone-ro,,,,,,",
-    *b"errors=zone-offline,",
-    *b"errors=repair,,,,,,,",
-    *b"explicit-open,,,,,,,",
-];
-
-// What each asks for.
-const ASKS: [Piece; WORDS] = [
-    Piece::Policy(ErrorPolicy::RemountRo),
-    Piece::Policy(ErrorPolicy::ZoneRo),
-    Piece::Policy(ErrorPolicy::ZoneOffline),
-    Piece::Policy(ErrorPolicy::Repair),
-    Piece::ExplicitOpen,
+// The table of them. A `static` is not laid out again for each byte.
+static TABLE: [Word; WORDS] = [
+    Word {
+        text: *b"errors=remount-ro,,,",
+        asks: Piece::Policy(ErrorPolicy::RemountRo),
+    },
+    Word {
+        text: *b"errors=zone-ro,,,,,,",
+        asks: Piece::Policy(ErrorPolicy::ZoneRo),
+    },
+    Word {
+        text: *b"errors=zone-offline,",
+        asks: Piece::Policy(ErrorPolicy::ZoneOffline),
+    },
+    Word {
+        text: *b"errors=repair,,,,,,,",
+        asks: Piece::Policy(ErrorPolicy::Repair),
+    },
+    Word {
+        text: *b"explicit-open,,,,,,,",
+        asks: Piece::ExplicitOpen,
+    },
 ];
 
 // The set of all words: a bit for each, the first word's the lowest.
@@ -39,19 +49,13 @@ const ALL_WORDS: u32 = (1 << WORDS) - 1;
 // What is held of a text between two of its bytes: how many there were, up to one more than a text may have; which words the piece so far could still
 // become, and the place of its next byte, which is how many it has, also once it can become no word; and what the pieces before it ask for, or that one
 // was bad.
+// It stays these numbers: `byte_taken` of the specs is stated over them, and a caller holds them between parts.
 #[derive(Clone, Copy)]
 pub struct Reading {
     pub bytes: usize,
     pub candidates: u32,
     pub place: usize,
-    pub so_far: Options,
-}
-
-// The words' bytes. Whoever needs them lends them on, so that they are not laid out again for each byte.
-fn texts() -> Texts
-    ensures { result ≡ word_table }
-{
-    TEXTS
+    pub so_far: Option<Asked>,
 }
 
 // A count of bytes, which stops once there are more than a text may have.
@@ -65,50 +69,43 @@ fn counted(n: usize) -> usize
 fn byte_at(row: &[u8], at: usize) -> u8
     ensures { result ≡ get_or row.now at comma }
 {
-    if at < row.len() { row[at] } else { b',' }
+    row.get(at).copied().unwrap_or(b',')
 }
 
 // The words that have this byte at this place.
-fn having(texts: &Texts, b: u8, at: usize) -> u32
-    requires { texts.now ≡ word_table }
+fn having(b: u8, at: usize) -> u32
     ensures { result ≡ having b at words }
 {
     let mut set = 0;
-    let mut w = WORDS;
-    while w > 0 {
-        w -= 1;
-        set = (b == byte_at(&texts[w], at)) as u32 + 2 * set;
+    for w in (0..WORDS).rev() {
+        set = u32::from(b == byte_at(&TABLE[w].text, at)) + 2 * set;
     }
     set
 }
 
 // What the first word of a set asks for. The last word comes first: each is chosen over those after it.
-fn piece_in(set: u32) -> Piece
+fn piece_in(set: u32) -> Option<Piece>
     ensures { result ≡ piece_in words set }
 {
-    let mut asked = Piece::Bad;
-    let mut w = WORDS;
-    while w > 0 {
-        w -= 1;
+    let mut asked = None;
+    for w in (0..WORDS).rev() {
         if (set >> w) % 2 == 1 {
-            asked = ASKS[w];
+            asked = Some(TABLE[w].asks);
         }
     }
     asked
 }
 
 // A bad piece is not forgotten.
-fn and_piece(so_far: Options, piece: Piece) -> Options
+fn and_piece(so_far: Option<Asked>, piece: Option<Piece>) -> Option<Asked>
     ensures { result ≡ and_piece so_far piece }
 {
-    match so_far {
-        Options::Good(asked) => with_piece(asked, piece),
-        Options::Bad => Options::Bad,
-    }
+    with_piece(so_far?, piece)
 }
 
 // What is asked for with a piece more, which has so many bytes and is each word of this set. An empty one is skipped.
-fn piece_ended(so_far: Options, bytes: usize, set: u32) -> Options
+#[tactic(auto, unfolding(crate::specs::Reading::piece_ended))]
+fn piece_ended(so_far: Option<Asked>, bytes: usize, set: u32) -> Option<Asked>
     ensures { result ≡ piece_ended so_far bytes set }
 {
     if bytes == 0 {
@@ -119,13 +116,13 @@ fn piece_ended(so_far: Options, bytes: usize, set: u32) -> Options
 }
 
 // One byte more. A comma ends the piece: the words that have it here are those that end here.
-fn take_byte(texts: &Texts, reading: Reading, b: u8) -> Reading
-    requires { texts.now ≡ word_table }
+#[tactic(auto, unfolding(crate::specs::Reading::byte_taken), using(crate::proofs::Sets::all_words_lem))]
+fn take_byte(reading: Reading, b: u8) -> Reading
     ensures { result ≡ byte_taken reading b }
 {
     let so_far = reading.so_far;
     let bytes = counted(reading.bytes);
-    let set = reading.candidates & having(texts, b, reading.place);
+    let set = reading.candidates & having(b, reading.place);
     if b == b',' {
         let ended = piece_ended(so_far, reading.place, set);
         Reading {
@@ -146,6 +143,7 @@ fn take_byte(texts: &Texts, reading: Reading, b: u8) -> Reading
 }
 
 // Before the first byte of a text.
+#[tactic(auto, unfolding(crate::specs::Reading::words))]
 pub fn start() -> Reading
     ensures { result ≡ started }
 {
@@ -153,7 +151,7 @@ pub fn start() -> Reading
         bytes: 0,
         candidates: ALL_WORDS,
         place: 0,
-        so_far: Options::Good(Asked {
+        so_far: Some(Asked {
             policy: ErrorPolicy::RemountRo,
             explicit: false,
         }),
@@ -164,23 +162,17 @@ pub fn start() -> Reading
 pub fn part(reading: Reading, bytes: &[u8]) -> Reading
     ensures { result ≡ part_taken reading bytes.now }
 {
-    let texts = texts();
-    let mut taken = reading;
-    for i in 0..bytes.len() {
-        taken = take_byte(&texts, taken, bytes[i]);
-    }
-    taken
+    bytes.iter().fold(reading, |taken, &b| take_byte(taken, b))
 }
 
 // The end of the text, and what it asks for. It ends the last piece as a comma does.
-pub fn end(reading: Reading) -> Options
+#[tactic(auto, unfolding(crate::specs::Reading::answered, crate::specs::Reading::part_taken, crate::specs::Reading::byte_taken))]
+pub fn end(reading: Reading) -> Option<Asked>
     ensures { result ≡ answered reading }
 {
     if reading.bytes <= MOST_BYTES {
-        let ended = part(reading, b",");
-        let so_far = ended.so_far;
-        so_far
+        part(reading, b",").so_far
     } else {
-        Options::Bad
+        None
     }
 }

@@ -1,17 +1,15 @@
 -- 02, K4: a mount whose report arrives in pieces: begin, any number of pieces, and the end. A struct by value; nothing else is held between them.
-use Rattle.std.specs.Prelude.{ℕ, ◌^◌, List, Bool, false, cond, not, ◌&&◌, leb, ltb}
+use Rattle.std.specs.Prelude.{ℕ, ◌^◌, List, Bool, false, cond, not, ◌&&◌, leb, ltb, Ok, Err}
 use Rattle.types.specs.Blocks.{block_sectors, good_block, most_zones}
 use Rattle.types.specs.Mounts.{empty_mount}
 use Rattle.types.specs.Verdicts.{refuse, and_then}
 use Rattle.types.specs.declared.Refusal.TheVariants.{BadReport, Impossible}
-use Rattle.types.specs.declared.Verdict.{Verdict}
-use Rattle.types.specs.declared.Verdict.TheVariants as verdict
+use Rattle.types.specs.Answers.{Verdict}
 use Rattle.types.specs.declared.Mount.{Mount}
-use Rattle.types.specs.declared.MountAnswer.{MountAnswer}
-use Rattle.types.specs.declared.MountAnswer.TheVariants.{Refused, Mounted}
+use Rattle.types.specs.Answers.{MountAnswer}
 use Rattle.superblock.specs.declared.SuperBlock.{SuperBlock}
-use Rattle.superblock.specs.SuperBlock.{super_read}
-use Rattle.options.specs.declared.Options.{Options}
+use Rattle.superblock.specs.SuperBlock.{super_read, found_in, fields_in}
+use Rattle.options.specs.Options.{Options}
 use Rattle.options.specs.Options.{options_of}
 use Rattle.files.specs.Walk.{cnv_files}
 use Rattle.mount.specs.Mount.{opening_check, answer_for, account_of, volume_of}
@@ -34,8 +32,8 @@ begun_with m aggregate = record { mount = m; aggregate = aggregate; received = n
 
 -- a refused begin hands out nothing that a piece could go on with
 unfoldable pub begun_as : Verdict → Mount → Bool → Pieces
-begun_as verdict.Passed m aggregate = begun_with m aggregate
-begun_as (verdict.Refused x) m aggregate = begun_with empty_mount false
+begun_as (Ok tt) m aggregate = begun_with m aggregate
+begun_as (Err x) m aggregate = begun_with empty_mount false
 
 pub record Beginning : Type 0 where
   pub answer : Verdict
@@ -44,9 +42,9 @@ pub record Beginning : Type 0 where
 unfoldable pub begin_outcome : ℕ → List ℕ → List ℕ → ℕ → ℕ → Beginning
 begin_outcome block superblock options open_limit active_limit =
     record {
-      answer = opening_check block (super_read superblock).check (options_of options);
-      pieces = begun_as (opening_check block (super_read superblock).check (options_of options))
-          (found_mount block (super_read superblock).fields (options_of options) open_limit active_limit) (super_read superblock).fields.aggregate;
+      answer = opening_check block (found_in (super_read superblock)) (options_of options);
+      pieces = begun_as (opening_check block (found_in (super_read superblock)) (options_of options))
+          (found_mount block (fields_in (super_read superblock)) (options_of options) open_limit active_limit) (fields_in (super_read superblock)).aggregate;
     }
 
 -- ---- which values are gone on with: a good block, and numbers of which no sum wraps, also where no report leads to them; all else answers 10
@@ -83,13 +81,13 @@ fed_to p s = record { answer = s.received.intake.check; pieces = received_by p s
 unfoldable pub piece_outcome : Pieces → List ℕ → List ℕ → List ℕ → Fed
 piece_outcome p bytes cnv seq =
     cond (possible_pieces p) (fed_to p (fed (rule_of p) (record { received = p.received; cnv = cnv; seq = seq }) bytes))
-    (record { answer = verdict.Refused Impossible; pieces = p; cnv = cnv; seq = seq })
+    (record { answer = Err Impossible; pieces = p; cnv = cnv; seq = seq })
 
 -- ---- the end
 
 -- "a missing or extra byte (28) at its place": a byte that is missing, at the end
 unfoldable pub end_check : Intake → Verdict
-end_check i = and_then i.check (refuse (not (complete i)) BadReport verdict.Passed)
+end_check i = and_then i.check (refuse (not (complete i)) BadReport (Ok tt))
 
 -- the mount value, with so many files of each kind, of which so many are active
 abbrev pub with_files : Mount → ℕ → ℕ → ℕ → Mount
@@ -117,8 +115,8 @@ with_files m cnvs seqs active =
 
 -- what the end hands out; after a refusal "no mount is handed out"
 abbrev pub end_mount : MountAnswer → Mount → Intake → Mount
-end_mount (Refused x) m i = empty_mount
-end_mount (Mounted cnvs seqs) m i = with_files m cnvs seqs i.active
+end_mount (Err x) m i = empty_mount
+end_mount (Ok (cnvs, seqs)) m i = with_files m cnvs seqs i.active
 
 -- what was found at the end stays found
 abbrev pub ended_as : Received → Verdict → Received
@@ -145,4 +143,4 @@ end_outcome p =
       mount = end_mount (end_answer p.received.intake) p.mount p.received.intake;
       pieces = received_by p (ended_as p.received (end_check p.received.intake));
     })
-    (record { answer = Refused Impossible; mount = empty_mount; pieces = p })
+    (record { answer = Err Impossible; mount = empty_mount; pieces = p })

@@ -9,11 +9,11 @@ ghost use Rattle.intake.specs.Facts.{BoundedIntake};
 ghost use Rattle.pieces.specs.Pieces.{found_mount, begun_with, begun_as, begin_outcome, possible_intake, possible_received, possible_pieces, rule_of, received_by, piece_outcome, end_check, with_files, end_mount, ended_as, end_outcome};
 
 use intake::{Intake, Rule};
-use options::Options;
+use options::Asked;
 use receiving::Received;
 use superblock::SuperBlock;
-use types::answers::{and_then, refuse};
-use types::{Account, Mount, MountAnswer, Refusal, Verdict, Volume, units};
+use types::answers::refuse;
+use types::{Account, Mount, Refusal, Volume, units};
 
 // A mount in pieces: what begin found, as a mount value of no files yet, whether neighbouring conventional zones are one file, and what
 // has been received.
@@ -25,16 +25,18 @@ pub struct Pieces {
 }
 
 // What begin or a piece gives beside the tables.
+// The answer stays beside the value: both are there in either case.
 #[derive(Clone, Copy)]
 pub struct PiecesOutcome {
-    pub answer: Verdict,
+    pub answer: Result<(), Refusal>,
     pub pieces: Pieces,
 }
 
 // What the end gives.
+// The answer stays beside the mount: a refusal hands out the empty one (`end_outcome` of the specs), and C gets its words.
 #[derive(Clone, Copy)]
 pub struct EndOutcome {
-    pub answer: MountAnswer,
+    pub answer: Result<(u32, u32), Refusal>,
     pub mount: Mount,
     pub pieces: Pieces,
 }
@@ -43,43 +45,42 @@ pub struct EndOutcome {
 fn found_mount(
     block: u64,
     fields: SuperBlock,
-    parsed: Options,
+    parsed: Option<Asked>,
     open_limit: u32,
     active_limit: u32,
 ) -> Mount
     ensures { result ≡ found_mount block fields parsed open_limit active_limit }
 {
-    let volume = mount::volume_of(0, 0, block, fields, parsed);
-    let account = mount::account_of(0, open_limit, active_limit);
     Mount {
-        volume,
+        volume: mount::volume_of(0, 0, block, fields, parsed),
         readonly: false,
-        account,
+        account: mount::account_of(0, open_limit, active_limit),
     }
 }
 
 fn begun_with(mount: Mount, aggregate: bool) -> Pieces
     ensures { result ≡ begun_with mount aggregate }
 {
-    let received = receiving::wholly(intake::nothing_taken());
     Pieces {
         mount,
         aggregate,
-        received,
+        received: receiving::wholly(intake::nothing_taken()),
     }
 }
 
 // What a refused begin hands out can't be gone on with.
-fn begun_as(found: Verdict, mount: Mount, aggregate: bool) -> Pieces
+#[tactic(auto, unfolding(crate::specs::Pieces::begun_as))]
+fn begun_as(found: Result<(), Refusal>, mount: Mount, aggregate: bool) -> Pieces
     ensures { result ≡ begun_as found mount aggregate }
 {
     match found {
-        Verdict::Passed => begun_with(mount, aggregate),
-        Verdict::Refused(_) => begun_with(types::mounts::empty_mount(), false),
+        Ok(()) => begun_with(mount, aggregate),
+        Err(_) => begun_with(types::mounts::empty_mount(), false),
     }
 }
 
 // Begins a mount whose report arrives in pieces: the checks 20 to 27 and 33.
+#[tactic(auto, unfolding(crate::specs::Pieces::begin_outcome))]
 pub fn begin(
     block: u64,
     superblock: &[u8],
@@ -90,8 +91,8 @@ pub fn begin(
     ensures { begin_outcome block superblock.now options.now open_limit active_limit ≡ record { answer = result.answer; pieces = result.pieces } }
 {
     let read = superblock::read_superblock(superblock);
-    let found = read.check;
-    let fields = read.fields;
+    let found = superblock::found_in(read);
+    let fields = superblock::fields_in(read);
     let parsed = options::read_options(options);
     let answer = mount::opening_check(block, found, parsed);
     let mount = found_mount(block, fields, parsed, open_limit, active_limit);
@@ -122,21 +123,18 @@ fn possible_received(received: Received) -> bool
 }
 
 // A value that can be gone on with: a good block, and numbers of which no sum wraps.
+#[tactic(auto, unfolding(crate::specs::Pieces::possible_pieces))]
 pub fn is_possible(pieces: Pieces) -> bool
     ensures { result ≡ possible_pieces pieces }
 {
-    let mount = pieces.mount;
-    let volume = mount.volume;
-    let received = pieces.received;
-    units::good_block(volume.block) & possible_received(received)
+    units::good_block(pieces.mount.volume.block) & possible_received(pieces.received)
 }
 
 // By what its zones are taken.
 fn rule_of(pieces: Pieces) -> Rule
     ensures { result ≡ rule_of pieces }
 {
-    let mount = pieces.mount;
-    let volume = mount.volume;
+    let volume = pieces.mount.volume;
     Rule {
         unit: units::block_sectors(volume.block),
         aggregate: pieces.aggregate,
@@ -147,12 +145,7 @@ fn rule_of(pieces: Pieces) -> Rule
 fn received_by(pieces: Pieces, received: Received) -> Pieces
     ensures { result ≡ received_by pieces received }
 {
-    let mount = pieces.mount;
-    Pieces {
-        mount,
-        aggregate: pieces.aggregate,
-        received,
-    }
+    Pieces { received, ..pieces }
 }
 
 // Takes a piece of the report, of any length, with both tables lent.
@@ -160,97 +153,70 @@ pub fn piece(pieces: Pieces, bytes: &[u8], cnv: &mut [u64], seq: &mut [u64]) -> 
     ensures { piece_outcome pieces bytes.now cnv.old seq.old ≡ record { answer = result.answer; pieces = result.pieces; cnv = cnv.new; seq = seq.new } }
 {
     if is_possible(pieces) {
-        let rule = rule_of(pieces);
-        let before = pieces.received;
-        let received = receiving::receive(rule, before, bytes, cnv, seq);
-        let intake = received.intake;
-        let answer = intake.check;
-        let after = received_by(pieces, received);
+        let received = receiving::receive(rule_of(pieces), pieces.received, bytes, cnv, seq);
         PiecesOutcome {
-            answer,
-            pieces: after,
+            answer: received.intake.check,
+            pieces: received_by(pieces, received),
         }
     } else {
         PiecesOutcome {
-            answer: Verdict::Refused(Refusal::Impossible),
+            answer: Err(Refusal::Impossible),
             pieces,
         }
     }
 }
 
 // What was found, and that no byte is missing.
-fn end_check(intake: Intake) -> Verdict
+#[tactic(auto, unfolding(types::specs::Verdicts::refuse, types::specs::Verdicts::and_then, crate::specs::Pieces::end_check))]
+fn end_check(intake: Intake) -> Result<(), Refusal>
     ensures { result ≡ end_check intake }
 {
-    let found = intake.check;
-    let missing = !receiving::is_complete(intake);
-    and_then(found, refuse(missing, Refusal::BadReport, Verdict::Passed))
+    intake.check?;
+    refuse(!receiving::is_complete(intake), Refusal::BadReport)
 }
 
 // The mount value, with so many files of each kind, of which so many are active.
 fn with_files(mount: Mount, cnvs: u32, seqs: u32, active: u32) -> Mount
     ensures { result ≡ with_files mount cnvs seqs active }
 {
-    let volume = mount.volume;
-    let account = mount.account;
-    let policy = volume.policy;
-    let uuid = volume.uuid;
-    let fixed = Volume {
-        block: volume.block,
-        conventional: cnvs,
-        sequential: seqs,
-        owner: volume.owner,
-        group: volume.group,
-        mode: volume.mode,
-        policy,
-        explicit: volume.explicit,
-        uuid,
-    };
-    let counted = Account {
-        opened: account.opened,
-        active,
-        open_limit: account.open_limit,
-        active_limit: account.active_limit,
-    };
     Mount {
-        volume: fixed,
-        readonly: mount.readonly,
-        account: counted,
+        volume: Volume {
+            conventional: cnvs,
+            sequential: seqs,
+            ..mount.volume
+        },
+        account: Account {
+            active,
+            ..mount.account
+        },
+        ..mount
     }
 }
 
-fn end_mount(answer: MountAnswer, mount: Mount, intake: Intake) -> Mount
+fn end_mount(answer: Result<(u32, u32), Refusal>, mount: Mount, intake: Intake) -> Mount
     ensures { result ≡ end_mount answer mount intake }
 {
     match answer {
-        MountAnswer::Refused(_) => types::mounts::empty_mount(),
-        MountAnswer::Mounted(cnvs, seqs) => with_files(mount, cnvs, seqs, intake.active),
+        Err(_) => types::mounts::empty_mount(),
+        Ok((cnvs, seqs)) => with_files(mount, cnvs, seqs, intake.active),
     }
 }
 
 // What was found at the end stays found.
-fn ended_as(received: Received, found: Verdict) -> Received
+fn ended_as(received: Received, found: Result<(), Refusal>) -> Received
     ensures { result ≡ ended_as received found }
 {
-    let intake = received.intake;
-    let walk = intake.walk;
-    let part = received.part;
-    let ended = Intake {
-        check: found,
-        count: intake.count,
-        given: intake.given,
-        walk,
-        active: intake.active,
-    };
     Received {
-        intake: ended,
-        part,
-        held: received.held,
+        intake: Intake {
+            check: found,
+            ..received.intake
+        },
+        ..received
     }
 }
 
 // The answer at the end: what was found, or the numbers of files.
-fn end_answer(intake: Intake, found: Verdict) -> MountAnswer
+fn end_answer(intake: Intake, found: Result<(), Refusal>) -> Result<(u32, u32), Refusal>
     requires { BoundedIntake intake }
     ensures { result ≡ answer_for found (cnv_files intake.walk) intake.walk.seqs }
 {
@@ -264,21 +230,18 @@ pub fn end(pieces: Pieces) -> EndOutcome
     ensures { end_outcome pieces ≡ record { answer = result.answer; mount = result.mount; pieces = result.pieces } }
 {
     if is_possible(pieces) {
-        let begun = pieces.mount;
         let received = pieces.received;
         let intake = received.intake;
         let found = end_check(intake);
         let answer = end_answer(intake, found);
-        let mount = end_mount(answer, begun, intake);
-        let after = received_by(pieces, ended_as(received, found));
         EndOutcome {
             answer,
-            mount,
-            pieces: after,
+            mount: end_mount(answer, pieces.mount, intake),
+            pieces: received_by(pieces, ended_as(received, found)),
         }
     } else {
         EndOutcome {
-            answer: MountAnswer::Refused(Refusal::Impossible),
+            answer: Err(Refusal::Impossible),
             mount: types::mounts::empty_mount(),
             pieces,
         }

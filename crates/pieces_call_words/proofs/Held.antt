@@ -1,12 +1,12 @@
 -- What begin, a piece and the end hand out is always held by the words that they write: every number is within its width, and the checks have found
 -- nothing but what a report leads to.
 -- Assumes nothing.
+use Rattle.std.specs.Prelude.{Option, Ok, Err, Some}
 use Prim.Native.Nat.{ℕ, zero, suc, ◌+◌, ◌^◌, ◌≤◌, ◌<◌}
 use native.Mathlib.Omega.{arith}
 use mathlib.Core.Path.{◌≡◌, refl, ◌∙◌}
 use mathlib.Core.Bool.{Bool, true, false, not}
 use mathlib.Core.List.{List, [], ◌∷◌}
-use borrow.Author.Tests.{eqb-false}
 use lib.Dec.{eqb}
 use lib.ListN.{length, get_or, set, length-set}
 use Rattle.types.specs.Codes.{fault_code}
@@ -14,22 +14,22 @@ use Rattle.types.specs.Verdicts.{refuse, and_then}
 use Rattle.types.specs.Mounts.{empty_mount}
 use Rattle.types.specs.declared.Mount.{Mount}
 use Rattle.types.specs.declared.ZoneFault.{ZoneFault}
+use Rattle.types.specs.declared.ZoneFault.TheVariants as fault
 use Rattle.types.specs.declared.Refusal.TheVariants.{BadReport, BadZone}
-use Rattle.types.specs.declared.Verdict.{Verdict}
-use Rattle.types.specs.declared.Verdict.TheVariants.{Passed, Refused}
+use Rattle.types.specs.Answers.{Verdict}
 use Rattle.types.proofs.Tests.{cases}
 use Rattle.types.proofs.Volumes.{BoundedVolume}
 use Rattle.table.specs.Rows.{rows_lent}
 use Rattle.superblock.specs.declared.SuperBlock.{SuperBlock}
-use Rattle.superblock.specs.SuperBlock.{super_read}
+use Rattle.superblock.specs.SuperBlock.{super_read, found_in, fields_in}
 use Rattle.superblock.proofs.Bounds.{zero_bytes, BoundedFields, fields_bounded}
-use Rattle.options.specs.declared.Options.{Options}
+use Rattle.options.specs.Options.{Options}
 use Rattle.options.specs.Options.{options_of}
 use Rattle.zones.specs.declared.Zone.{Zone}
 use Rattle.zones.specs.Zone.{zone_at, good_zone}
 use Rattle.zones.specs.Faults as faults
 use Rattle.zones.specs.Faults.{fault_unless, zone_fault}
-use Rattle.zones.proofs.Faults.{zone_faultless}
+use Rattle.zones.proofs.Faults.{zone_faultless, some_fault}
 use Rattle.report.specs.Report.{good_fields}
 use Rattle.mount.specs.Mount.{opening_check, aggregated}
 use Rattle.intake.specs.declared.Rule.{Rule}
@@ -49,7 +49,7 @@ use Rattle.pieces_words.proofs.Back.{Findable, passed, report, zone, rows, Bound
 -- WHAT IS FOUND
 
 -- one test more
-one_reason : (t : Bool) (x rest : ZoneFault) → fault_code x ≤ 7 → fault_code rest ≤ 7 → fault_code (fault_unless t x rest) ≤ 7
+one_reason : (t : Bool) (x : ZoneFault) (rest : Option ZoneFault) → fault_code (Some x) ≤ 7 → fault_code rest ≤ 7 → fault_code (fault_unless t x rest) ≤ 7
 unfolding fault_unless
 one_reason true x rest here there = there
 one_reason false x rest here there = here
@@ -61,11 +61,21 @@ reason_small unit e z =
     one_reason _ _ _ (omega arith) (one_reason _ _ _ (omega arith) (one_reason _ _ _ (omega arith) (one_reason _ _ _ (omega arith)
     (one_reason _ _ _ (omega arith) (one_reason _ _ _ (omega arith) (one_reason _ _ _ (omega arith) (omega arith)))))))
 
-bad_found : (unit e number : ℕ) (z : Zone) → number < 2 ^ 32 → good_zone unit e z ≡ false → Findable (Refused (BadZone number (zone_fault unit e z)))
+some_reason : (x : ZoneFault) → 1 ≤ fault_code (Some x)
+some_reason fault.Start = omega arith
+some_reason fault.Length = omega arith
+some_reason fault.Capacity = omega arith
+some_reason fault.End = omega arith
+some_reason fault.Type = omega arith
+some_reason fault.Condition = omega arith
+some_reason fault.Pointer = omega arith
+some_reason fault.OtherZone = omega arith
+some_reason fault.BetterCondition = omega arith
+
+bad_found : (unit e number : ℕ) (z : Zone) → number < 2 ^ 32 → good_zone unit e z ≡ false → Findable (Err (BadZone number (zone_fault unit e z)))
 bad_found unit e number z small bad =
-    let x = zone_fault unit e z in
-    let some : 1 ≤ fault_code x = omega (arith, eqb-false (fault_code x) 0 (zone_faultless unit e z ∙ bad)) in
-    zone small some (reason_small unit e z)
+    let (x, is) = some_fault (zone_fault unit e z) (zone_faultless unit e z ∙ bad) in
+    zone small (rw is (some_reason x)) (reason_small unit e z)
 
 header_found : (i : Intake) (h : List ℕ) → Findable i.check → Findable (header_taken i h).check
 unfolding header_taken
@@ -129,11 +139,11 @@ module _ (r : Rule) (s : Receiving) (b : BoundedReceived s.received) (h : Receiv
   byte_held = by s.received.intake.check
     where
       by : (v : Verdict) → Receivable (byte_after v r s c).received
-      by Passed =
+      by (Ok tt) =
           cases (complete s.received.intake)
           (λ all. rw all (record { check = report; bytes = h.bytes; sixty_four = h.sixty_four }))
           (λ next. rw next collected_held)
-      by (Refused x) = h
+      by (Err x) = h
 
 fed_held : (r : Rule) (s : Receiving) (bytes : List ℕ) → ((k : ℕ) → get_or bytes k 0 < 256) → BoundedReceived s.received → Receivable s.received
     → Receivable (fed r s bytes).received
@@ -153,7 +163,7 @@ with_received m aggregate x v a h few =
 begun_as_lem : (v : Verdict) (block : ℕ) (f : SuperBlock) (o : Options) (open_limit active_limit : ℕ) (aggregate : Bool) → BoundedFields f → open_limit < 2 ^ 32
     → active_limit < 2 ^ 32 → BoundedPieces (begun_as v (found_mount block f o open_limit active_limit) aggregate)
 unfolding begun_as
-begun_as_lem Passed block f o open_limit active_limit aggregate fields first second =
+begun_as_lem (Ok tt) block f o open_limit active_limit aggregate fields first second =
     with_received (found_mount block f o open_limit active_limit) aggregate nothing_received
     (record {
       conventional = omega arith;
@@ -165,7 +175,7 @@ begun_as_lem Passed block f o open_limit active_limit aggregate fields first sec
       sixteen = fields.sixteen;
     })
     (record { opened = omega arith; active = omega arith; open_limit = first; active_limit = second }) nothing_held (omega arith)
-begun_as_lem (Refused x) block f o open_limit active_limit aggregate fields first second =
+begun_as_lem (Err x) block f o open_limit active_limit aggregate fields first second =
     with_received empty_mount false nothing_received
     (record {
       conventional = omega arith;
@@ -182,7 +192,7 @@ pub begun_held : (block : ℕ) (superblock options : List ℕ) (open_limit activ
     → active_limit < 2 ^ 32 → BoundedPieces (begin_outcome block superblock options open_limit active_limit).pieces
 unfolding begin_outcome
 begun_held block superblock options open_limit active_limit bytes first second =
-    begun_as_lem (opening_check block (super_read superblock).check (options_of options)) block (super_read superblock).fields (options_of options) open_limit active_limit
+    begun_as_lem (opening_check block (found_in (super_read superblock)) (options_of options)) block (fields_in (super_read superblock)) (options_of options) open_limit active_limit
     (aggregated superblock) (fields_bounded superblock bytes) first second
 
 module _ (p : Pieces) (b : BoundedPieces p) where
@@ -201,11 +211,11 @@ module _ (p : Pieces) (b : BoundedPieces p) where
       (omega (arith, then.active, then.walk.seqs, then.number, then.count))))
       (λ cannot. rw cannot b)
 
-  ended_found : (v : Verdict) (all : Bool) → Findable v → Findable (and_then v (refuse (not all) BadReport Passed))
+  ended_found : (v : Verdict) (all : Bool) → Findable v → Findable (and_then v (refuse (not all) BadReport (Ok tt)))
   unfolding and_then refuse
-  ended_found Passed true f = passed
-  ended_found Passed false f = report
-  ended_found (Refused x) all f = f
+  ended_found (Ok tt) true f = passed
+  ended_found (Ok tt) false f = report
+  ended_found (Err x) all f = f
 
   pub end_held : BoundedPieces (end_outcome p).pieces
   unfolding end_outcome end_check

@@ -1,6 +1,7 @@
 -- A mount in pieces that is kept in words between its calls gives exactly what it gives by value, and its words are never refused: begin that isn't refused,
 -- any pieces, and the end.
 -- Assumes nothing.
+use Rattle.std.specs.Prelude.{Ok, Err}
 use Prim.Native.Nat.{ℕ, ◌^◌, ◌<◌, ◌≤◌}
 use native.Mathlib.Omega.{arith}
 use mathlib.Core.Path.{◌≡◌, refl, sym, ap, ◌∙◌}
@@ -11,11 +12,10 @@ use lib.Dec.{leb}
 use lib.ListN.{length, get_or, take}
 use Rattle.types.specs.Blocks.{good_block}
 use Rattle.types.specs.declared.Refusal.TheVariants.{Impossible}
-use Rattle.types.specs.declared.Verdict.{Verdict}
-use Rattle.types.specs.declared.Verdict.TheVariants.{Passed, Refused}
+use Rattle.types.specs.Answers.{Verdict}
 use Rattle.types.specs.declared.Mount.{Mount}
 use Rattle.types.specs.Numbers.{refusal_number, verdict_number, verdict_values, mount_number, mount_values}
-use Rattle.superblock.specs.SuperBlock.{super_read}
+use Rattle.superblock.specs.SuperBlock.{super_read, found_in}
 use Rattle.options.specs.Options.{options_of}
 use Rattle.mount.specs.Mount.{answer_for}
 use Rattle.mount.proofs.Mounted.{opening_block}
@@ -126,8 +126,8 @@ kept s f (b ∷ bs) small k =
 
 answer_number_lem : (v : Verdict) (c s : ℕ) → mount_number (answer_for v c s) ≡ verdict_number v
 unfolding answer_for
-answer_number_lem Passed c s = refl
-answer_number_lem (Refused x) c s = refl
+answer_number_lem (Ok tt) c s = refl
+answer_number_lem (Err x) c s = refl
 
 -- it answers what it found
 end_number : (p : Pieces) → possible_pieces p ≡ true → mount_number (end_outcome p).answer ≡ verdict_number (end_outcome p).pieces.received.intake.check
@@ -151,12 +151,12 @@ end_shown s f m u k fits =
 
 -- BEGIN, ANY PIECES, THE END
 
-begun_check : (v : Verdict) (m : Mount) (aggregate : Bool) → (begun_as v m aggregate).received.intake.check ≡ Passed
+begun_check : (v : Verdict) (m : Mount) (aggregate : Bool) → (begun_as v m aggregate).received.intake.check ≡ Ok tt
 unfolding begun_as
-begun_check Passed m aggregate = refl
-begun_check (Refused x) m aggregate = refl
+begun_check (Ok tt) m aggregate = refl
+begun_check (Err x) m aggregate = refl
 
-begun-possible : (v : Verdict) (m : Mount) (aggregate : Bool) → v ≡ Passed → good_block m.volume.block ≡ true → possible_pieces (begun_as v m aggregate) ≡ true
+begun-possible : (v : Verdict) (m : Mount) (aggregate : Bool) → v ≡ Ok tt → good_block m.volume.block ≡ true → possible_pieces (begun_as v m aggregate) ≡ true
 unfolding begun_as
 begun-possible v m aggregate e good = rw e (possible_given (begun_with m aggregate) good nothing_received_lem)
 
@@ -164,16 +164,16 @@ module _ (block : ℕ) (superblock options : List ℕ) (open_limit active_limit 
   abbrev pub begin : Beginning
   begin = begin_outcome block superblock options open_limit active_limit
 
-  begins_possible : begin.answer ≡ Passed → possible_pieces begin.pieces ≡ true
+  begins_possible : begin.answer ≡ Ok tt → possible_pieces begin.pieces ≡ true
   unfolding begin_outcome
-  begins_possible e = begun-possible _ _ _ e (opening_block block (super_read superblock).check (options_of options) e)
+  begins_possible e = begun-possible _ _ _ e (opening_block block (found_in (super_read superblock)) (options_of options) e)
 
-  begins_answer : begin.answer ≡ Passed → begin.answer ≡ begin.pieces.received.intake.check
+  begins_answer : begin.answer ≡ Ok tt → begin.answer ≡ begin.pieces.received.intake.check
   unfolding begin_outcome
   begins_answer e = e ∙ sym (begun_check _ _ _)
 
   module _ (w a cnv seq : List ℕ) (bytes : (k : ℕ) → get_or superblock k 0 < 256) (first : open_limit < 2 ^ 32) (second : active_limit < 2 ^ 32)
-      (room : roomy (length w) (length a) ≡ true) (e : begin.answer ≡ Passed) (bs : List (List ℕ)) (small : AllBytes bs) where
+      (room : roomy (length w) (length a) ≡ true) (e : begin.answer ≡ Ok tt) (bs : List (List ℕ)) (small : AllBytes bs) where
     begun_kept : Kept (begun_in (begin_given block superblock options open_limit active_limit w a) cnv seq) (started begin cnv seq)
     unfolding begin_given
     begun_kept =

@@ -1,5 +1,6 @@
 -- A mount in pieces put into words and read back is the same, whatever stands behind it.
 -- Assumes nothing.
+use Rattle.std.specs.Prelude.{Option, Ok, Err, Some, None}
 use Prim.Native.Nat.{ℕ, ◌^◌, ◌≤◌, ◌<◌}
 use native.Mathlib.Omega.{arith}
 use native.Mathlib.Nat.{mod-eq_of_lt}
@@ -12,8 +13,7 @@ use borrow.Author.Tests.{lt-ltb, le-leb}
 use Rattle.types.specs.declared.ZoneFault.{ZoneFault}
 use Rattle.types.specs.declared.ZoneFault.TheVariants as fault
 use Rattle.types.specs.declared.Refusal.TheVariants.{BadReport, BadZone, TooFewRows}
-use Rattle.types.specs.declared.Verdict.{Verdict}
-use Rattle.types.specs.declared.Verdict.TheVariants.{Passed, Refused}
+use Rattle.types.specs.Answers.{Verdict}
 use Rattle.types.specs.Codes.{fault_code}
 use Rattle.types.proofs.Volumes.{BoundedVolume}
 use Rattle.wire.specs.Le.{le, little}
@@ -28,22 +28,22 @@ use Rattle.pieces_words.specs.Words.{pieces_length, account_at, check_words, pie
 
 -- what they can find of a report: nothing, 28, 29 of a zone with a reason of 1 to 7, 30
 pub data Findable : Verdict → Type 0 where
-  passed : Findable Passed
-  report : Findable (Refused BadReport)
-  zone : {n : ℕ} {x : ZoneFault} → n < 2 ^ 32 → 1 ≤ fault_code x → fault_code x ≤ 7 → Findable (Refused (BadZone n x))
-  rows : Findable (Refused TooFewRows)
+  passed : Findable (Ok tt)
+  report : Findable (Err BadReport)
+  zone : {n : ℕ} {x : Option ZoneFault} → n < 2 ^ 32 → 1 ≤ fault_code x → fault_code x ≤ 7 → Findable (Err (BadZone n x))
+  rows : Findable (Err TooFewRows)
 
-fault_back : (x : ZoneFault) → 1 ≤ fault_code x → fault_code x ≤ 7 → reason_from (fault_code x) ≡ x
-fault_back fault.Nothing low high = absurd (omega arith)
-fault_back fault.Start low high = refl
-fault_back fault.Length low high = refl
-fault_back fault.Capacity low high = refl
-fault_back fault.End low high = refl
-fault_back fault.Type low high = refl
-fault_back fault.Condition low high = refl
-fault_back fault.Pointer low high = refl
-fault_back fault.OtherZone low high = absurd (omega arith)
-fault_back fault.BetterCondition low high = absurd (omega arith)
+fault_back : (x : Option ZoneFault) → 1 ≤ fault_code x → fault_code x ≤ 7 → reason_from (fault_code x) ≡ x
+fault_back None low high = absurd (omega arith)
+fault_back (Some fault.Start) low high = refl
+fault_back (Some fault.Length) low high = refl
+fault_back (Some fault.Capacity) low high = refl
+fault_back (Some fault.End) low high = refl
+fault_back (Some fault.Type) low high = refl
+fault_back (Some fault.Condition) low high = refl
+fault_back (Some fault.Pointer) low high = refl
+fault_back (Some fault.OtherZone) low high = absurd (omega arith)
+fault_back (Some fault.BetterCondition) low high = absurd (omega arith)
 
 module _ (aggregate : Bool) where
   check_possible : (v : Verdict) → Findable v

@@ -1,13 +1,14 @@
 -- Words from a place on, as a callee is lent them and leaves them; the part's bytes, put as eight numbers one after the other; and all words of a mount
 -- in pieces, put one field after the other.
 -- Assumes nothing.
-use Prim.Native.Nat.{ℕ, ◌+◌, ◌-◌, ◌≤◌}
+use Prim.Native.Nat.{ℕ, zero, suc, ◌+◌, ◌-◌, ◌*◌, ◌≤◌}
 use native.Mathlib.Omega.{arith}
-use mathlib.Core.Path.{◌≡◌, ◌∙◌, ap, sym}
+use mathlib.Core.Path.{◌≡◌, ◌∙◌, ap, sym, refl}
 use mathlib.Core.List.{List, [], ◌++◌, append-nil, append_assoc}
-use lib.ListN.{length, take, drop, replicate, length-drop, drop_of_length-le}
+use lib.ListN.{length, set, take, drop, replicate, length-drop, drop_of_length-le}
 use lib.Seq.{sets, sets-eq, take_all, drop-drop, length-sets}
-use Rattle.wire.specs.Le.{little}
+use Rattle.wire.specs.Le.{le, little}
+use Rattle.receiving.specs.declared.Received.{Received}
 use Rattle.answer_words.specs.Answers.{written}
 use Rattle.answer_words.proofs.Front.{put_front}
 use Rattle.pieces.specs.declared.Pieces.{Pieces}
@@ -34,14 +35,20 @@ part_written k w values {after} fits e =
     ∙ sym (append_assoc (take k w) values (drop (k + length values) w))
     ∙ sym (sets-eq values w k fits)
 
--- THE PART'S BYTES
+-- THE PART'S BYTES, put as numbers one after the other, and taken from them
 
-pub part_put : (w : List ℕ) {l₁ l₂ l₃ l₄ l₅ l₆ l₇ l₈ : List ℕ} → l₁ ≡ sets (replicate 64 0) 0 (little 8 (word w 31))
-    → l₂ ≡ sets l₁ 8 (little 8 (word w 32)) → l₃ ≡ sets l₂ 16 (little 8 (word w 33)) → l₄ ≡ sets l₃ 24 (little 8 (word w 34))
-    → l₅ ≡ sets l₄ 32 (little 8 (word w 35)) → l₆ ≡ sets l₅ 40 (little 8 (word w 36)) → l₇ ≡ sets l₆ 48 (little 8 (word w 37))
-    → l₈ ≡ sets l₇ 56 (little 8 (word w 38)) → l₈ ≡ part_from w
+-- as far as word k of the eight
+abbrev pub part_of : List ℕ → ℕ → List ℕ
+part_of w zero = replicate 64 0
+part_of w (suc k) = sets (part_of w k) (8 * k) (little 8 (word w (31 + k)))
+
+pub part_whole : (w : List ℕ) → part_of w 8 ≡ part_from w
 unfolding part_from little
-part_put w a b c d e f g h = rw (h, g, f, e, d, c, b, a)
+part_whole w = refl
+
+abbrev pub held_of : List ℕ → Received → ℕ → List ℕ
+held_of w x zero = set w held_at x.held
+held_of w x (suc k) = set (held_of w x k) (31 + k) (le 8 x.part (8 * k))
 
 -- ALL WORDS
 

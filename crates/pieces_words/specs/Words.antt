@@ -1,11 +1,10 @@
 -- A mount in pieces in the words that a caller keeps between its calls: where each field stands, which words can hold one, and which one they hold.
-use Rattle.std.specs.Prelude.{ℕ, List, [], ◌∷◌, ◌++◌, Bool, true, cond, ◌&&◌, ◌||◌, ◌≡◌, length, get_or, drop, leb, eqb}
+use Rattle.std.specs.Prelude.{ℕ, List, [], ◌∷◌, ◌++◌, Bool, true, cond, ◌&&◌, ◌||◌, ◌≡◌, length, get_or, drop, leb, eqb, Option, Ok, Err, Some}
 use Rattle.types.specs.declared.ZoneFault.{ZoneFault}
 use Rattle.types.specs.declared.ZoneFault.TheVariants as fault
 use Rattle.types.specs.declared.Refusal.{Refusal}
 use Rattle.types.specs.declared.Refusal.TheVariants.{BadReport, BadZone, TooFewRows}
-use Rattle.types.specs.declared.Verdict.{Verdict}
-use Rattle.types.specs.declared.Verdict.TheVariants.{Passed, Refused}
+use Rattle.types.specs.Answers.{Verdict}
 use Rattle.types.specs.Codes.{flag_code}
 use Rattle.types.specs.Numbers.{verdict_number, verdict_values}
 use Rattle.wire.specs.Le.{le, little}
@@ -81,18 +80,18 @@ possible_words w =
 -- ---- the one of words
 
 -- a reason from its number
-abbrev pub reason_from : ℕ → ZoneFault
+abbrev pub reason_from : ℕ → Option ZoneFault
 reason_from n =
-    cond (eqb n 1) fault.Start
-    (cond (eqb n 2) fault.Length (cond (eqb n 3) fault.Capacity (cond (eqb n 4) fault.End
-    (cond (eqb n 5) fault.Type (cond (eqb n 6) fault.Condition fault.Pointer)))))
+    cond (eqb n 1) (Some fault.Start)
+    (cond (eqb n 2) (Some fault.Length) (cond (eqb n 3) (Some fault.Capacity) (cond (eqb n 4) (Some fault.End)
+    (cond (eqb n 5) (Some fault.Type) (cond (eqb n 6) (Some fault.Condition) (Some fault.Pointer))))))
 
 abbrev pub refusal_from : ℕ → ℕ → ℕ → Refusal
 refusal_from number first second =
     cond (eqb number 28) BadReport (cond (eqb number 29) (BadZone (short_of first) (reason_from second)) TooFewRows)
 
 unfoldable pub check_from : ℕ → ℕ → ℕ → Verdict
-check_from number first second = cond (eqb number 0) Passed (Refused (refusal_from number first second))
+check_from number first second = cond (eqb number 0) (Ok tt) (Err (refusal_from number first second))
 
 abbrev pub walk_from : List ℕ → Walk
 walk_from w =

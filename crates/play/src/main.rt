@@ -3,8 +3,6 @@
 #![tactic(auto)]
 
 ghost use Rattle.std.specs.Prelude.{◌≡◌, true, false, ◌≤◌, ◌<◌, length, take, IfErr, IfOk};
-ghost use Rattle.tape_lines.specs.Facts.{line_room};
-ghost use Rattle.tape_pieces.specs.Pieces.{longest_opening};
 ghost use Rattle.tape_pieces.specs.Facts.{Continues, holding_of};
 
 use std::env::{Env, FillError};
@@ -23,7 +21,16 @@ const WRITE_BYTES: usize = 65536;
 // The bytes that a name may have.
 const NAME_BYTES: usize = 4096;
 
-// How far the input was read: the bytes that are there, and whether it has ended.
+// What a tape is played in: the bytes that are read, tables for as many files as there can be, and the lines that are written.
+#[derive(Drop)]
+struct Memory {
+    buffer: [u8; READ_BYTES],
+    cnv: [u64; TABLE_WORDS],
+    seq: [u64; TABLE_WORDS],
+    lines: [u8; WRITE_BYTES],
+}
+
+// How far the input was read: the bytes that are there, and whether it has ended. Both are kept: where it has ended, the buffer may be full or not.
 #[derive(Clone, Copy)]
 pub struct Input {
     pub have: usize,
@@ -65,41 +72,33 @@ fn fill<R: Read>(reader: &mut R, b: &mut [u8], have: usize, ended: bool) -> io::
     ensures b_unchanged { take have b.new ≡ take have b.old }
 {
     let mut input = Input { have, ended };
-    while !input.ended & (input.have < b.len()) {
+    while !input.ended && input.have < b.len() {
         input = read_once(reader, b, input.have)?;
     }
     Ok(input)
 }
 
-// Writes the lines before `end`.
-fn write_lines<W: Write>(writer: &mut W, out: &[u8], end: usize) -> io::Result<()>
-    requires { end ≤ length out.now }
-{
-    writer.write_all(&out[..end])
-}
-
 // Reads behind what is left, and plays on: whatever the piece is that was read, what is written and kept is what `tape_pieces` defines for it. Where
 // it can't be read, all stays but what is behind.
-fn read_on<R: Read>(
-    reader: &mut R,
-    kept: Kept,
-    ended: bool,
-    b: &mut [u8],
-    cnv: &mut [u64],
-    seq: &mut [u64],
-    out: &mut [u8],
-) -> io::Result<Playing>
-    requires { kept.left ≤ length b.old }
-    ensures left_in_bounds { IfOk result (λ p. p.kept.left ≤ length b.old) }
-    ensures to_in_bounds { IfOk result (λ p. p.kept.turned.to ≤ length out.old) }
-    ensures stays { IfErr result (λ e. (take kept.left b.new ≡ take kept.left b.old) × (cnv.new ≡ cnv.old) × (seq.new ≡ seq.old) × (out.new ≡ out.old)) }
-    ensures continues { IfOk result (λ p. Continues (length out.old) (holding_of b.old ended kept cnv.old seq.old) p.ended b.new out.old out.new p.kept cnv.new seq.new) }
+fn read_on<R: Read>(reader: &mut R, p: Playing, m: &mut Memory) -> io::Result<Playing>
+    requires { p.kept.left ≤ READ_BYTES }
+    ensures left_in_bounds { IfOk result (λ next. next.kept.left ≤ READ_BYTES) }
+    ensures to_in_bounds { IfOk result (λ next. next.kept.turned.to ≤ WRITE_BYTES) }
+    ensures stays { IfErr result (λ e. (take p.kept.left m.new.buffer ≡ take p.kept.left m.old.buffer) × (m.new.cnv ≡ m.old.cnv) × (m.new.seq ≡ m.old.seq) × (m.new.lines ≡ m.old.lines)) }
+    ensures continues { IfOk result (λ next. Continues (length m.old.lines) (holding_of m.old.buffer p.ended p.kept m.old.cnv m.old.seq) next.ended m.new.buffer m.old.lines m.new.lines next.kept m.new.cnv m.new.seq) }
 {
-    let input = fill(reader, b, kept.left, ended)?;
-    let turned = kept.turned;
-    let next = tape_pieces::next_part(b, input.have, input.ended, turned, cnv, seq, out);
+    let input = fill(reader, &mut m.buffer, p.kept.left, p.ended)?;
+    let kept = tape_pieces::next_part(
+        &mut m.buffer,
+        input.have,
+        input.ended,
+        p.kept.turned,
+        &mut m.cnv,
+        &mut m.seq,
+        &mut m.lines,
+    );
     Ok(Playing {
-        kept: next,
+        kept,
         ended: input.ended,
     })
 }
@@ -110,22 +109,20 @@ fn play_on<R: Read, W: Write>(
     reader: &mut R,
     writer: &mut W,
     p: Playing,
-    b: &mut [u8],
-    cnv: &mut [u64],
-    seq: &mut [u64],
-    out: &mut [u8],
+    m: &mut Memory,
 ) -> Result<(), Failure>
-    requires { (p.kept.left ≤ length b.old) × (p.kept.turned.to ≤ length out.old) }
+    requires { (p.kept.left ≤ READ_BYTES) × (p.kept.turned.to ≤ WRITE_BYTES) }
 {
     let mut p = p;
     for _ in 0..u64::MAX {
-        let kept = p.kept;
-        let turned = kept.turned;
-        write_lines(writer, &out[..], turned.to).map_err(Failure::Writing)?;
-        if tape_pieces::is_over(turned.more, p.ended, kept.left) {
+        let turned = p.kept.turned;
+        writer
+            .write_all(&m.lines[..turned.to])
+            .map_err(Failure::Writing)?;
+        if tape_pieces::is_over(turned.more, p.ended, p.kept.left) {
             break;
         }
-        p = read_on(reader, kept, p.ended, b, cnv, seq, out).map_err(Failure::Reading)?;
+        p = read_on(reader, p, m).map_err(Failure::Reading)?;
     }
     Ok(())
 }
@@ -134,20 +131,22 @@ fn play_on<R: Read, W: Write>(
 fn play_tape<R: Read, W: Write>(
     reader: &mut R,
     writer: &mut W,
-    b: &mut [u8],
-    cnv: &mut [u64],
-    seq: &mut [u64],
-    out: &mut [u8],
-) -> Result<(), Failure>
-    requires { (longest_opening ≤ length b.old) × (line_room ≤ length out.old) }
-{
-    let input = fill(reader, b, 0, false).map_err(Failure::Reading)?;
-    let kept = tape_pieces::first_part(b, input.have, input.ended, cnv, seq, out);
+    m: &mut Memory,
+) -> Result<(), Failure> {
+    let input = fill(reader, &mut m.buffer, 0, false).map_err(Failure::Reading)?;
+    let kept = tape_pieces::first_part(
+        &mut m.buffer,
+        input.have,
+        input.ended,
+        &mut m.cnv,
+        &mut m.seq,
+        &mut m.lines,
+    );
     let p = Playing {
         kept,
         ended: input.ended,
     };
-    play_on(reader, writer, p, b, cnv, seq, out)
+    play_on(reader, writer, p, m)
 }
 
 // Says on standard error what failed, and why.
@@ -155,14 +154,15 @@ fn tell<D: Display + Drop>(rt: &impl Eprint, what: &str, why: D) {
     let _ = eprintln!(rt; "{what}: {why}");
 }
 
-// Plays the tape of a reader, with tables for as many files as there can be. Where it can't be read, it tells so by this name.
+// Plays the tape of a reader. Where it can't be read, it tells so by this name.
 fn play_file<R: Read>(rt: &(impl Print + Eprint), reader: &mut R, name: &str) {
-    let mut b = [0u8; READ_BYTES];
-    let mut out = [0u8; WRITE_BYTES];
-    let mut cnv = [0u64; TABLE_WORDS];
-    let mut seq = [0u64; TABLE_WORDS];
-    let mut writer = io::writer(rt);
-    match play_tape(reader, &mut writer, &mut b, &mut cnv, &mut seq, &mut out) {
+    let mut memory = Memory {
+        buffer: [0; READ_BYTES],
+        cnv: [0; TABLE_WORDS],
+        seq: [0; TABLE_WORDS],
+        lines: [0; WRITE_BYTES],
+    };
+    match play_tape(reader, &mut io::writer(rt), &mut memory) {
         Ok(()) => {}
         Err(Failure::Reading(e)) => tell(rt, name, e),
         Err(Failure::Writing(e)) => tell(rt, "standard output", e),
@@ -184,10 +184,16 @@ fn help(to: &impl Print) {
 }
 
 fn has_argument(rt: &impl Env, i: usize) -> bool {
-    match rt.arg(i, &mut []) {
-        Err(FillError::NotPresent) => false,
-        _ => true,
-    }
+    !matches!(rt.arg(i, &mut []), Err(FillError::NotPresent))
+}
+
+// The first argument, or why it can't be taken.
+fn first_argument<'a>(
+    rt: &impl Env,
+    room: &'a mut [u8; NAME_BYTES],
+) -> Result<&'a str, &'static str> {
+    let n = rt.arg(1, room).map_err(|_| "File name too long")?;
+    str::from_utf8(&room[..n]).map_err(|_| "not UTF-8")
 }
 
 fn main(rt: HostRuntime) {
@@ -199,18 +205,9 @@ fn main(rt: HostRuntime) {
         help(&rt.stderr());
         return;
     }
-    let mut name = [0u8; NAME_BYTES];
-    let Ok(n) = rt.arg(1, &mut name) else {
-        tell(&rt, "the name of the tape", "File name too long");
-        return;
-    };
-    let Ok(name) = str::from_utf8(&name[..n]) else {
-        tell(&rt, "the name of the tape", "not UTF-8");
-        return;
-    };
-    if name == "--help" {
-        help(&rt.stdout());
-        return;
+    match first_argument(&rt, &mut [0u8; NAME_BYTES]) {
+        Ok("--help") => help(&rt.stdout()),
+        Ok(name) => play_named(&rt, name),
+        Err(why) => tell(&rt, "the name of the tape", why),
     }
-    play_named(&rt, name);
 }

@@ -1,5 +1,6 @@
 -- Bytes that are added to those which are there of the next header or zone: as many as are missing, or all that came.
 -- Assumes nothing.
+use Rattle.std.specs.Prelude.{Ok, Err}
 use Prim.Native.Nat.{ℕ, ◌+◌, ◌-◌, ◌≤◌, ◌<◌, min}
 use native.Mathlib.Omega.{arith}
 use mathlib.Core.Path.{◌≡◌, refl, sym, ap, subst, ◌∙◌}
@@ -10,7 +11,6 @@ use lib.ListN.{length, take, length-take}
 use lib.Seq.{sets, take_all}
 use borrow.Author.Tests.{eqb-false, ne_eqb, lt-ltb}
 use Rattle.types.specs.declared.Refusal.{Refusal}
-use Rattle.types.specs.declared.Verdict.TheVariants.{Passed, Refused}
 use Rattle.zones.specs.Zone.{zone_bytes, zone_at}
 use Rattle.report.specs.Report.{header_bytes}
 use Rattle.intake.specs.declared.Rule.{Rule}
@@ -26,23 +26,23 @@ use Rattle.receiving.proofs.Units.{not-complete, goes_on_in}
 
 -- after a header that isn't refused there are zones to come, and a zone leaves their number as it is
 pub unit_counts : (r : Rule) (t : Taking) (b : List ℕ) → BoundedIntake t.intake → complete t.intake ≡ false
-    → (unit_taken r t b).intake.check ≡ Passed → 1 ≤ (unit_taken r t b).intake.count
+    → (unit_taken r t b).intake.check ≡ Ok tt → 1 ≤ (unit_taken r t b).intake.count
 unfolding unit_taken
 unit_counts r t b bounded next passed = by (eqb t.intake.count 0) refl passed
   where
     by : (y : Bool) → eqb t.intake.count 0 ≡ y
-        → (cond y (record { intake = header_taken t.intake b; cnv = t.cnv; seq = t.seq }) (zone_taken r t (zone_at t.intake.given b 0))).intake.check ≡ Passed
+        → (cond y (record { intake = header_taken t.intake b; cnv = t.cnv; seq = t.seq }) (zone_taken r t (zone_at t.intake.given b 0))).intake.check ≡ Ok tt
         → 1 ≤ (cond y (record { intake = header_taken t.intake b; cnv = t.cnv; seq = t.seq }) (zone_taken r t (zone_at t.intake.given b 0))).intake.count
     by true none p = header-counts t.intake b p
     by false some p =
         let here = not-complete t.intake next (eqb-false t.intake.count 0 some) in
         omega (arith, here, (zone_kept r t (zone_at t.intake.given b 0) (bounded, here)).1)
 
-pub just_taken : (i : Intake) (x : Received) → x ≡ wholly i → (i.check ≡ Passed → 1 ≤ i.count) → JustTaken x
+pub just_taken : (i : Intake) (x : Received) → x ≡ wholly i → (i.check ≡ Ok tt → 1 ≤ i.count) → JustTaken x
 just_taken i x e counted = subst JustTaken (sym e) (record { whole = refl; counted = counted })
 
 -- fewer bytes than a zone's, right after a zone or the header, are all used
-rest_used : (x : Received) (n len : ℕ) → n ≡ min (unit_bytes x.intake - x.held) len → x.intake.check ≡ Passed → complete x.intake ≡ false
+rest_used : (x : Received) (n len : ℕ) → n ≡ min (unit_bytes x.intake - x.held) len → x.intake.check ≡ Ok tt → complete x.intake ≡ false
     → (goes_on x.intake ≡ true → len < zone_bytes) → JustTaken x → n ≡ len
 rest_used x n len used passed next few j =
     let none : x.held ≡ 0 = ap (λ (y : Received). y.held) j.whole in
@@ -57,7 +57,7 @@ abbrev pub Adds : Rule → Receiving → List ℕ → ℕ → Receiving → Type
 Adds r s b n s' =
     (fed r s (take n b) ≡ s') × ((n ≤ length b) × ((n < length b → JustTaken s'.received) × ((goes_on s.received.intake ≡ true → length b < zone_bytes) → JustTaken s.received → n ≡ length b)))
 
-module _ (r : Rule) (s : Receiving) (b : List ℕ) (n : ℕ) (bounded : BoundedReceived s.received) (passed : s.received.intake.check ≡ Passed)
+module _ (r : Rule) (s : Receiving) (b : List ℕ) (n : ℕ) (bounded : BoundedReceived s.received) (passed : s.received.intake.check ≡ Ok tt)
     (next : complete s.received.intake ≡ false) (used : n ≡ min (unit_bytes s.received.intake - s.received.held) (length b)) where
   few : n ≤ length b
   few = omega arith
@@ -72,7 +72,7 @@ module _ (r : Rule) (s : Receiving) (b : List ℕ) (n : ℕ) (bounded : BoundedR
       ap (unit_taken r (taking_of s)) (sym put) ∙ taken in
       let all : fed r s (take n b) ≡ record { received = wholly i; cnv = cnv; seq = seq } =
       fed_unit r s (take n b) passed next (omega (arith, length-take n b)) (omega (arith, length-take n b)) ∙ ap between here in
-      let counted : i.check ≡ Passed → 1 ≤ i.count =
+      let counted : i.check ≡ Ok tt → 1 ≤ i.count =
       (λ p. subst (λ (t : Taking). 1 ≤ t.intake.count) taken
       (unit_counts r (taking_of s) part bounded.intake next (ap (λ (t : Taking). t.intake.check) taken ∙ p))) in (
         all ∙ ap (λ (y : Received). record { received = y; cnv = cnv; seq = seq }) (sym e),
@@ -97,10 +97,10 @@ module _ (r : Rule) (s : Receiving) (b : List ℕ) where
   all_used : {s' : Receiving} → fed r s b ≡ s' → Adds r s b (length b) s'
   all_used e = (ap (fed r s) (take_all (length b) b (omega arith)) ∙ e, (omega arith, ((λ more. absurd (omega arith)), (λ _ _. refl))))
 
-  pub add_refused : (x : Refusal) → s.received.intake.check ≡ Refused x → Adds r s b (length b) s
+  pub add_refused : (x : Refusal) → s.received.intake.check ≡ Err x → Adds r s b (length b) s
   add_refused x refused = all_used (fed_refused r s b x refused)
 
-  pub add-extra : {x : Received} → s.received.intake.check ≡ Passed → complete s.received.intake ≡ true
+  pub add-extra : {x : Received} → s.received.intake.check ≡ Ok tt → complete s.received.intake ≡ true
       → x ≡ cond (ltb 0 (length b)) (extra_byte s.received) s.received → Adds r s b (length b) (record { received = x; cnv = s.cnv; seq = s.seq })
   unfolding fed
   add-extra {x} passed done e =

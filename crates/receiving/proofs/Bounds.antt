@@ -1,5 +1,6 @@
 -- What is received stays within its bounds, byte after byte.
 -- Assumes nothing.
+use Rattle.std.specs.Prelude.{Ok, Err}
 use Prim.Native.Nat.{ℕ, ◌+◌, ◌<◌}
 use native.Mathlib.Omega.{arith}
 use mathlib.Core.Path.{◌≡◌}
@@ -8,8 +9,7 @@ use mathlib.Core.List.{List, [], ◌∷◌}
 use borrow.Author.Tests.{leb-false, le-leb, eqb-true, eqb-false}
 use lib.Dec.{eqb, leb}
 use lib.ListN.{set}
-use Rattle.types.specs.declared.Verdict.{Verdict}
-use Rattle.types.specs.declared.Verdict.TheVariants.{Passed, Refused}
+use Rattle.types.specs.Answers.{Verdict}
 use Rattle.types.proofs.Tests.{cases}
 use Rattle.zones.specs.Zone.{zone_at}
 use Rattle.intake.specs.declared.Rule.{Rule}
@@ -58,7 +58,7 @@ module _ (r : Rule) (s : Receiving) (b : BoundedReceived s.received) where
       (λ all. rw all (wholly_bounded _ (unit_bounded r (record { intake = i; cnv = s.cnv; seq = s.seq }) part b.intake next)))
       (λ fewer. rw fewer (record { intake = b.intake; held = omega (arith, b.held, eqb-false held (unit_bytes i) fewer) }))
 
-  passed_bounded : (c : ℕ) → BoundedReceived (byte_after Passed r s c).received
+  passed_bounded : (c : ℕ) → BoundedReceived (byte_after (Ok tt) r s c).received
   passed_bounded c =
       cases (complete s.received.intake)
       (λ all. rw all (record { intake = refused_bounded s.received.intake _ b.intake; held = b.held }))
@@ -69,8 +69,8 @@ module _ (r : Rule) (s : Receiving) (b : BoundedReceived s.received) where
   byte_bounded c = by s.received.intake.check
     where
       by : (v : Verdict) → BoundedReceived (byte_after v r s c).received
-      by Passed = passed_bounded c
-      by (Refused x) = b
+      by (Ok tt) = passed_bounded c
+      by (Err x) = b
 
 pub fed_bounded : (r : Rule) (s : Receiving) (bytes : List ℕ) → BoundedReceived s.received → BoundedReceived (fed r s bytes).received
 unfolding fed

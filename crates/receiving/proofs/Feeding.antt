@@ -1,6 +1,7 @@
 -- Bytes one after the other: those of two pieces are those of the one that they make together, and a header or zone that is there as a whole is
 -- taken at once. So code may take whole zones from a piece and collect only what is cut.
 -- Assumes nothing.
+use Rattle.std.specs.Prelude.{Ok, Err}
 use Prim.Native.Nat.{ℕ, suc, ◌+◌, ◌≤◌, ◌<◌}
 use native.Mathlib.Omega.{arith}
 use native.Mathlib.Numerals.{add-one}
@@ -13,8 +14,7 @@ use lib.Dec.{eqb}
 use lib.ListN.{length, set, take, drop, take-append-drop, length-drop}
 use lib.Seq.{sets, length-take-le, drop-drop}
 use Rattle.types.specs.declared.Refusal.{Refusal}
-use Rattle.types.specs.declared.Verdict.{Verdict}
-use Rattle.types.specs.declared.Verdict.TheVariants.{Passed, Refused}
+use Rattle.types.specs.Answers.{Verdict}
 use Rattle.zones.specs.Zone.{zone_bytes, zone_at}
 use Rattle.report.specs.Report.{header_bytes}
 use Rattle.intake.specs.declared.Rule.{Rule}
@@ -40,18 +40,18 @@ fed_join r s (x ∷ xs) ys = fed_join r (byte_taken r s x) xs ys
 
 -- AFTER A REFUSAL nothing changes
 
-pub fed_refused : (r : Rule) (s : Receiving) (cs : List ℕ) (x : Refusal) → s.received.intake.check ≡ Refused x → fed r s cs ≡ s
+pub fed_refused : (r : Rule) (s : Receiving) (cs : List ℕ) (x : Refusal) → s.received.intake.check ≡ Err x → fed r s cs ≡ s
 unfolding fed byte_taken
 fed_refused r s [] x h = refl
 fed_refused r s (c ∷ cs) x h = ap (λ (v : Verdict). fed r (byte_after v r s c) cs) h ∙ fed_refused r s cs x h
 
 -- AFTER THE LAST ZONE a byte is one too many
 
-byte_extra : (r : Rule) (s : Receiving) (c : ℕ) → s.received.intake.check ≡ Passed → complete s.received.intake ≡ true → byte_taken r s c ≡ extra s
+byte_extra : (r : Rule) (s : Receiving) (c : ℕ) → s.received.intake.check ≡ Ok tt → complete s.received.intake ≡ true → byte_taken r s c ≡ extra s
 unfolding byte_taken
 byte_extra r s c passed done = ap (λ (v : Verdict). byte_after v r s c) passed ∙ first_of (extra s) _ done
 
-pub fed-extra : (r : Rule) (s : Receiving) (cs : List ℕ) → s.received.intake.check ≡ Passed → complete s.received.intake ≡ true → 0 < length cs
+pub fed-extra : (r : Rule) (s : Receiving) (cs : List ℕ) → s.received.intake.check ≡ Ok tt → complete s.received.intake ≡ true → 0 < length cs
     → fed r s cs ≡ extra s
 unfolding fed
 fed-extra r s [] passed done some = absurd (omega arith)
@@ -66,7 +66,7 @@ taking_of s = record { intake = s.received.intake; cnv = s.cnv; seq = s.seq }
 abbrev pub with_part : Receiving → List ℕ → ℕ → Receiving
 with_part s part held = record { received = record { intake = s.received.intake; part = part; held = held }; cnv = s.cnv; seq = s.seq }
 
-module _ (r : Rule) (s : Receiving) (passed : s.received.intake.check ≡ Passed) (next : complete s.received.intake ≡ false) where
+module _ (r : Rule) (s : Receiving) (passed : s.received.intake.check ≡ Ok tt) (next : complete s.received.intake ≡ false) where
   byte_next : (c : ℕ) → byte_taken r s c ≡ collected r s (set s.received.part s.received.held c) (s.received.held + 1)
   unfolding byte_taken
   byte_next c = ap (λ (v : Verdict). byte_after v r s c) passed ∙ second_of (extra s) _ next
@@ -85,7 +85,7 @@ module _ (r : Rule) (s : Receiving) (passed : s.received.intake.check ≡ Passed
   byte_last c h = byte_next c ∙ first_of _ _ (eq-eqb (s.received.held + 1) (unit_bytes s.received.intake) h)
 
 -- it isn't whole yet
-pub fed_part : (r : Rule) (s : Receiving) (cs : List ℕ) → s.received.intake.check ≡ Passed → complete s.received.intake ≡ false
+pub fed_part : (r : Rule) (s : Receiving) (cs : List ℕ) → s.received.intake.check ≡ Ok tt → complete s.received.intake ≡ false
     → s.received.held + length cs < unit_bytes s.received.intake
     → fed r s cs ≡ with_part s (sets s.received.part s.received.held cs) (s.received.held + length cs)
 unfolding fed
@@ -97,7 +97,7 @@ fed_part r s (c ∷ cs) passed next h =
     ∙ ap (with_part s (sets s.received.part s.received.held (c ∷ cs))) (omega arith)
 
 -- its last byte is among them
-pub fed_unit : (r : Rule) (s : Receiving) (cs : List ℕ) → s.received.intake.check ≡ Passed → complete s.received.intake ≡ false
+pub fed_unit : (r : Rule) (s : Receiving) (cs : List ℕ) → s.received.intake.check ≡ Ok tt → complete s.received.intake ≡ false
     → 0 < length cs → s.received.held + length cs ≡ unit_bytes s.received.intake
     → fed r s cs ≡ between (unit_taken r (taking_of s) (sets s.received.part s.received.held cs))
 unfolding fed
@@ -109,7 +109,7 @@ fed_unit r s (c ∷ d ∷ cs) passed next some h =
 
 -- A WHOLE ZONE, after one that is whole, is taken at once
 
-pub fed-zone : (r : Rule) (t : Taking) (b : List ℕ) (at : ℕ) → t.intake.check ≡ Passed → eqb t.intake.count 0 ≡ false
+pub fed-zone : (r : Rule) (t : Taking) (b : List ℕ) (at : ℕ) → t.intake.check ≡ Ok tt → eqb t.intake.count 0 ≡ false
     → complete t.intake ≡ false → at + zone_bytes ≤ length b
     → fed r (between t) (drop at b) ≡ fed r (between (zone_taken r t (zone_at t.intake.given b at))) (drop (at + zone_bytes) b)
 unfolding unit_taken
@@ -125,7 +125,7 @@ fed-zone r t b at passed known next fits =
     ∙ ap (fed r _) (drop-drop zone_bytes at b)
 
 -- and so is a header
-pub fed-header : (r : Rule) (t : Taking) (b : List ℕ) → t.intake.check ≡ Passed → t.intake.count ≡ 0 → header_bytes ≤ length b
+pub fed-header : (r : Rule) (t : Taking) (b : List ℕ) → t.intake.check ≡ Ok tt → t.intake.count ≡ 0 → header_bytes ≤ length b
     → fed r (between t) b ≡ fed r (between (record { intake = header_taken t.intake b; cnv = t.cnv; seq = t.seq })) (drop header_bytes b)
 unfolding unit_taken
 fed-header r t b passed none fits =

@@ -1,5 +1,6 @@
 -- A piece as the code takes it: what is missing of an unfinished header or zone, the zones that are whole, and what is left.
 -- Assumes nothing.
+use Rattle.std.specs.Prelude.{Ok}
 use Prim.Native.Nat.{ℕ, ◌+◌, ◌-◌, ◌≤◌, ◌<◌}
 use native.Mathlib.Omega.{arith}
 use native.Mathlib.Nat.{le_of_eq}
@@ -8,7 +9,6 @@ use mathlib.Core.Bool.{true}
 use mathlib.Core.List.{List}
 use lib.ListN.{length, take, drop, take-append-drop, length-drop}
 use lib.Seq.{take_all}
-use Rattle.types.specs.declared.Verdict.TheVariants.{Passed}
 use Rattle.zones.specs.Zone.{zone_bytes}
 use Rattle.intake.specs.declared.Rule.{Rule}
 use Rattle.intake.specs.declared.Intake.{Intake}
@@ -49,7 +49,7 @@ module _ (r : Rule) (s : Receiving) (b : List ℕ) (used : ℕ) {x : Received} {
     -- and it is all used
     pub receive_last : {y z : Received} {cnv'' seq'' : List ℕ} (used' : ℕ) → y ≡ wholly i
         → (goes_on i ≡ true → length b < at + zone_bytes)
-        → ((x.intake.check ≡ Passed → 1 ≤ x.intake.count) → i.check ≡ Passed → 1 ≤ i.count)
+        → ((x.intake.check ≡ Ok tt → 1 ≤ x.intake.count) → i.check ≡ Ok tt → 1 ≤ i.count)
         → fed r (record { received = y; cnv = cnv'; seq = seq' }) (take used' (take (length b - at) (drop at b))) ≡ record { received = z; cnv = cnv''; seq = seq'' }
         → ((goes_on y.intake ≡ true → length (take (length b - at) (drop at b)) < zone_bytes) → JustTaken y → used' ≡ length (take (length b - at) (drop at b)))
         → fed r s b ≡ record { received = z; cnv = cnv''; seq = seq'' }

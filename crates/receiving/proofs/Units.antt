@@ -1,13 +1,13 @@
 -- What tells whether a header, a zone or nothing comes next.
 -- Assumes nothing.
+use Rattle.std.specs.Prelude.{Ok, Err}
 use Prim.Native.Nat.{ℕ, ◌≤◌, ◌<◌}
 use native.Mathlib.Omega.{arith}
 use mathlib.Core.Path.{◌≡◌, refl, ap, ◌∙◌}
 use mathlib.Core.Bool.{Bool, true, false, cond, ◌&&◌}
 use lib.Dec.{eqb, leb, ltb}
 use borrow.Author.Tests.{leb-false, ltb-true, le-leb, lt-ltb}
-use Rattle.types.specs.declared.Verdict.{Verdict}
-use Rattle.types.specs.declared.Verdict.TheVariants.{Passed, Refused}
+use Rattle.types.specs.Answers.{Verdict}
 use Rattle.types.proofs.Tests.{and_left, and_right}
 use Rattle.zones.specs.Zone.{zone_bytes}
 use Rattle.report.specs.Report.{header_bytes}
@@ -31,14 +31,14 @@ unit_few i = by (eqb i.count 0)
 
 -- a zone is to come, and nothing was refused: what tells so, and what it tells
 
-pub goes_on_in : (i : Intake) → i.check ≡ Passed → i.walk.number < i.count → goes_on i ≡ true
+pub goes_on_in : (i : Intake) → i.check ≡ Ok tt → i.walk.number < i.count → goes_on i ≡ true
 goes_on_in i passed here = ap (λ (v : Verdict). is_passed v && ltb i.walk.number i.count) passed ∙ lt-ltb i.walk.number i.count here
 
-passed_told : (v : Verdict) → is_passed v ≡ true → v ≡ Passed
-passed_told Passed h = refl
-passed_told (Refused x) h = let z : ◌≡◌ {A = ℕ} 0 1 = cc in absurd (omega arith)
+passed_told : (v : Verdict) → is_passed v ≡ true → v ≡ Ok tt
+passed_told (Ok tt) h = refl
+passed_told (Err x) h = let z : ◌≡◌ {A = ℕ} 0 1 = cc in absurd (omega arith)
 
-pub goes_on-told : (i : Intake) → goes_on i ≡ true → (i.check ≡ Passed) × (i.walk.number < i.count)
+pub goes_on-told : (i : Intake) → goes_on i ≡ true → (i.check ≡ Ok tt) × (i.walk.number < i.count)
 goes_on-told i h =
     let n = i.walk.number in
     (passed_told i.check (and_left (is_passed i.check) (ltb n i.count) h), ltb-true n i.count (and_right (is_passed i.check) (ltb n i.count) h))

@@ -1,5 +1,6 @@
 -- The zones that are whole in a piece, taken where they stand: the bytes that are left do what all did.
 -- Assumes nothing.
+use Rattle.std.specs.Prelude.{Ok}
 use Prim.Native.Nat.{ℕ, ◌+◌, ◌-◌, ◌≤◌, ◌<◌}
 use native.Mathlib.Omega.{arith}
 use native.Mathlib.Decide.{ℕ_discrete}
@@ -9,7 +10,6 @@ use mathlib.Core.List.{List, []}
 use lib.Dec.{eqb, leb}
 use lib.ListN.{length, drop, drop_of_length-le}
 use borrow.Author.Tests.{leb-true, leb-false, ne_eqb, lt-leb}
-use Rattle.types.specs.declared.Verdict.TheVariants.{Passed}
 use Rattle.types.proofs.Tests.{and_left, and_right}
 use Rattle.zones.specs.declared.Zone.{Zone}
 use Rattle.zones.specs.Zone.{zone_bytes, zone_at}
@@ -32,7 +32,7 @@ pub record Passing (r : Rule) (b : List ℕ) (from : ℕ) (cnv₀ seq₀ : List 
   pub after : from ≤ at
   pub whole : from < at → from + zone_bytes ≤ at
   pub unmoved : at ≡ from → i ≡ i₀
-  pub passed : i.check ≡ Passed → i₀.check ≡ Passed
+  pub passed : i.check ≡ Ok tt → i₀.check ≡ Ok tt
   pub cnvs : length cnv ≡ length cnv₀
   pub seqs : length seq ≡ length seq₀
   pub same : fed r (between (record { intake = i; cnv = cnv; seq = seq })) (drop at b)
@@ -88,7 +88,7 @@ passing_done i len at inside left on =
 
 -- it counts some zones, if it did before it
 pub passing_counted : {r : Rule} {b : List ℕ} {from : ℕ} {cnv₀ seq₀ : List ℕ} {i₀ : Intake} {cnv seq : List ℕ} {i : Intake} {at : ℕ}
-    → Passing r b from cnv₀ seq₀ i₀ cnv seq i at → (i₀.check ≡ Passed → 1 ≤ i₀.count) → i.check ≡ Passed → 1 ≤ i.count
+    → Passing r b from cnv₀ seq₀ i₀ cnv seq i at → (i₀.check ≡ Ok tt → 1 ≤ i₀.count) → i.check ≡ Ok tt → 1 ≤ i.count
 passing_counted so counted p = let some = counted (so.passed p) in omega (arith, so.counts, some)
 
 -- where one zone at least was there, it was taken
@@ -101,7 +101,7 @@ passing_moved {b = b} {from} {i₀ = i₀} {i = i} {at} so left on fits = elim (
 ]
 
 -- of one zone's bytes: the zone is taken
-pub passing_one : (r : Rule) (t : Taking) (b : List ℕ) (i : Intake) (cnv seq : List ℕ) (at : ℕ) → t.intake.check ≡ Passed → (t.intake.count ≡ 0 → ⊥)
+pub passing_one : (r : Rule) (t : Taking) (b : List ℕ) (i : Intake) (cnv seq : List ℕ) (at : ℕ) → t.intake.check ≡ Ok tt → (t.intake.count ≡ 0 → ⊥)
     → complete t.intake ≡ false → length b ≡ zone_bytes → at ≡ zone_bytes
     → fed r (between (record { intake = i; cnv = cnv; seq = seq })) (drop at b) ≡ fed r (between t) (drop 0 b)
     → zone_taken r t (zone_at t.intake.given b 0) ≡ record { intake = i; cnv = cnv; seq = seq }

@@ -1,9 +1,8 @@
 -- 02, K4: "let the report arrive in pieces cut anywhere": what one byte does. A piece is its bytes one after the other, so that two pieces do what the
 -- one does that they make together (the law `fed_join`), and where they are cut makes no difference.
-use Rattle.std.specs.Prelude.{ℕ, ◌+◌, List, [], ◌∷◌, Bool, cond, ◌&&◌, set, replicate, eqb, leb}
+use Rattle.std.specs.Prelude.{ℕ, ◌+◌, List, [], ◌∷◌, Bool, cond, ◌&&◌, set, replicate, eqb, leb, Ok, Err}
 use Rattle.types.specs.declared.Refusal.TheVariants.{BadReport}
-use Rattle.types.specs.declared.Verdict.{Verdict}
-use Rattle.types.specs.declared.Verdict.TheVariants.{Passed, Refused}
+use Rattle.types.specs.Answers.{Verdict}
 use Rattle.zones.specs.Zone.{zone_bytes, zone_at}
 use Rattle.report.specs.Report.{header_bytes}
 use Rattle.intake.specs.declared.Rule.{Rule}
@@ -67,8 +66,8 @@ extra s = record { received = extra_byte s.received; cnv = s.cnv; seq = s.seq }
 
 -- after a refusal every further byte changes nothing, so that it is answered again
 abbrev pub byte_after : Verdict → Rule → Receiving → ℕ → Receiving
-byte_after (Refused x) r s c = s
-byte_after Passed r s c =
+byte_after (Err x) r s c = s
+byte_after (Ok tt) r s c =
     cond (complete s.received.intake) (extra s) (collected r s (set s.received.part s.received.held c) (s.received.held + 1))
 
 unfoldable pub byte_taken : Rule → Receiving → ℕ → Receiving

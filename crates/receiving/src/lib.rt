@@ -2,16 +2,16 @@
 #![tactic(auto)]
 
 ghost use Rattle.std.specs.Prelude.{◌≡◌, true, false, cond, ◌≤◌, ◌<◌, ◌+◌, min, ltb, length, take, drop};
-ghost use Rattle.types.specs.declared.Verdict.TheVariants.{Passed};
 ghost use Rattle.zones.specs.Zone.{zone_bytes};
 ghost use Rattle.intake.specs.Facts.{BoundedIntake};
 ghost use Rattle.receiving.specs.Bytes.{unit_bytes, complete, unit_taken, wholly, extra_byte, between, fed};
 ghost use Rattle.receiving.specs.Facts.{BoundedReceived, goes_on, JustTaken};
 
 use intake::{Intake, Rule};
-use types::{Refusal, Verdict};
+use types::Refusal;
 
 // What has been received of a report: what was taken of it, and the bytes that are there of the next header or zone.
+// The bytes stay beside their number: the words of C hold all 64 (`part_from` of the specs).
 #[derive(Clone, Copy)]
 pub struct Received {
     pub intake: Intake,
@@ -20,6 +20,7 @@ pub struct Received {
 }
 
 // What was taken of some bytes, and how many of them were used.
+// It stays beside `Whole`: two pairs with names, of which other facts are told.
 #[derive(Clone, Copy)]
 struct Progress {
     received: Received,
@@ -48,20 +49,14 @@ pub fn unit_bytes(intake: Intake) -> usize
 pub fn is_complete(intake: Intake) -> bool
     ensures { result ≡ complete intake }
 {
-    let walk = intake.walk;
-    (1 <= intake.count) & (intake.count <= walk.number)
+    (1 <= intake.count) & (intake.count <= intake.walk.number)
 }
 
 // Nothing was refused, and a zone is to come.
 fn goes_on(intake: Intake) -> bool
     ensures { result ≡ goes_on intake }
 {
-    let check = intake.check;
-    let walk = intake.walk;
-    match check {
-        Verdict::Passed => walk.number < intake.count,
-        Verdict::Refused(_) => false,
-    }
+    intake.check.is_ok() & (intake.walk.number < intake.count)
 }
 
 // After a header or zone that is whole, nothing of the next is there.
@@ -76,6 +71,7 @@ pub fn wholly(intake: Intake) -> Received
 }
 
 // Takes the zones that are whole in these bytes, from `from` on, where they stand.
+#[tactic(auto, unfolding(crate::specs::Bytes::fed))]
 fn take_whole(
     rule: Rule,
     intake: Intake,
@@ -88,7 +84,7 @@ fn take_whole(
     ensures fed { fed rule (between (record { intake = result.intake; cnv = cnv.new; seq = seq.new })) (drop result.at bytes.now) ≡ fed rule (between (record { intake = intake; cnv = cnv.old; seq = seq.old })) (drop from bytes.now) }
     ensures inside { result.at ≤ length bytes.now }
     ensures bounded { BoundedIntake result.intake }
-    ensures counted { (intake.check ≡ Passed → 1 ≤ intake.count) → result.intake.check ≡ Passed → 1 ≤ result.intake.count }
+    ensures counted { (intake.check ≡ Ok tt → 1 ≤ intake.count) → result.intake.check ≡ Ok tt → 1 ≤ result.intake.count }
     ensures moved { goes_on intake ≡ true → from + zone_bytes ≤ length bytes.now → from + zone_bytes ≤ result.at }
     ensures done { goes_on result.intake ≡ true → length bytes.now < result.at + zone_bytes }
 {
@@ -104,14 +100,13 @@ fn take_whole(
 
 // Takes the header or zone of these bytes. A zone is taken by the loop over whole ones, so that its code is there once and compiled into that loop.
 fn take_unit(rule: Rule, intake: Intake, b: &[u8], cnv: &mut [u64], seq: &mut [u64]) -> Intake
-    requires { (0 < rule.unit) × BoundedIntake intake × (intake.check ≡ Passed) × (complete intake ≡ false) × (length b.now ≡ zone_bytes) }
+    requires { (0 < rule.unit) × BoundedIntake intake × (intake.check ≡ Ok tt) × (complete intake ≡ false) × (length b.now ≡ zone_bytes) }
     ensures { unit_taken rule (record { intake = intake; cnv = cnv.old; seq = seq.old }) b.now ≡ record { intake = result; cnv = cnv.new; seq = seq.new } }
 {
     if intake.count == 0 {
         intake::take_header(intake, b)
     } else {
-        let whole = take_whole(rule, intake, b, 0, cnv, seq);
-        whole.intake
+        take_whole(rule, intake, b, 0, cnv, seq).intake
     }
 }
 
@@ -120,23 +115,13 @@ fn refuse_extra(received: Received, bytes: usize) -> Received
     ensures { result ≡ cond (ltb 0 bytes) (extra_byte received) received }
 {
     if 0 < bytes {
-        let intake = received.intake;
-        let part = received.part;
-        let refused = intake::refused_with(intake, Refusal::BadReport);
         Received {
-            intake: refused,
-            part,
-            held: received.held,
+            intake: intake::refused_with(received.intake, Refusal::BadReport),
+            ..received
         }
     } else {
         received
     }
-}
-
-fn smaller(a: usize, b: usize) -> usize
-    ensures { result ≡ min a b }
-{
-    if a < b { a } else { b }
 }
 
 // Adds bytes to those that are there of the next header or zone, and takes it once they are all.
@@ -147,7 +132,7 @@ fn add_bytes(
     cnv: &mut [u64],
     seq: &mut [u64],
 ) -> Progress
-    requires { (0 < rule.unit) × BoundedReceived received × (received.intake.check ≡ Passed) × (complete received.intake ≡ false) }
+    requires { (0 < rule.unit) × BoundedReceived received × (received.intake.check ≡ Ok tt) × (complete received.intake ≡ false) }
     ensures fed { fed rule (record { received = received; cnv = cnv.old; seq = seq.old }) (take result.used bytes.now) ≡ record { received = result.received; cnv = cnv.new; seq = seq.new } }
     ensures used { result.used ≤ length bytes.now }
     ensures taken { result.used < length bytes.now → JustTaken result.received }
@@ -155,21 +140,18 @@ fn add_bytes(
 {
     let intake = received.intake;
     let unit = unit_bytes(intake);
-    let n = smaller(unit - received.held, bytes.len());
+    let n = (unit - received.held).min(bytes.len());
     let mut part = received.part;
     wire::put_bytes(&mut part[..], received.held, &bytes[..n]);
     let held = received.held + n;
     if held == unit {
-        let taken = take_unit(rule, intake, &part[..], cnv, seq);
-        let whole = wholly(taken);
         Progress {
-            received: whole,
+            received: wholly(take_unit(rule, intake, &part[..], cnv, seq)),
             used: n,
         }
     } else {
-        let more = Received { intake, part, held };
         Progress {
-            received: more,
+            received: Received { intake, part, held },
             used: n,
         }
     }
@@ -190,17 +172,15 @@ fn collect(
     ensures rest { (goes_on received.intake ≡ true → length bytes.now < zone_bytes) → JustTaken received → result.used ≡ length bytes.now }
 {
     let intake = received.intake;
-    let check = intake.check;
-    if let Verdict::Refused(_) = check {
+    if let Err(_) = intake.check {
         return Progress {
             received,
             used: bytes.len(),
         };
     }
     if is_complete(intake) {
-        let refused = refuse_extra(received, bytes.len());
         Progress {
-            received: refused,
+            received: refuse_extra(received, bytes.len()),
             used: bytes.len(),
         }
     } else {

@@ -1,5 +1,6 @@
 -- Check 9, out and in, and its fault; when a record gives the size; and the recovery table: what it fixes, and that access never rises.
 -- Assumes nothing.
+use Rattle.std.specs.Prelude.{Some}
 use Prim.Native.Nat.{ℕ, ◌+◌, ◌≤◌}
 use native.Mathlib.Omega.{arith}
 use mathlib.Core.Path.{◌≡◌, refl, ap, ◌∙◌, sym}
@@ -15,15 +16,16 @@ use Rattle.types.specs.declared.Access.{Access}
 use Rattle.types.specs.declared.Access.TheVariants as access
 use Rattle.types.specs.declared.ErrorPolicy.{ErrorPolicy}
 use Rattle.types.specs.declared.ErrorPolicy.TheVariants.{RemountRo, ZoneRo, ZoneOffline, Repair}
+use Rattle.types.specs.declared.ZoneFault.{ZoneFault}
 use Rattle.types.specs.Blocks.{bytes_of, block_sectors}
 use Rattle.types.specs.Codes.{access_code}
 use Rattle.types.proofs.Tests.{both, and_left, and_right}
 use Rattle.zones.specs.declared.Zone.{Zone}
 use Rattle.zones.specs.Zone.{conventional, sequential, condition_of, healthy, good_record}
 use Rattle.zones.specs.Faults.{first_fault, record_tests, record_fault, is_faultless}
-use Rattle.zones.specs.Facts.{all_passed, First, fault_numbers}
+use Rattle.zones.specs.Facts.{Bounded, all_passed, First, fault_numbers}
 use Rattle.zones.proofs.Laws.{record_bounded}
-use Rattle.zones.proofs.Faults.{passed_on, found_first, first_fault_lem, both_passed, named, none_fails, passed_after, passed_after_lem, record_passed}
+use Rattle.zones.proofs.Faults.{passed_on, found_first, first_fault_lem, both_passed, none_fails, passed_after, passed_after_lem, record_passed, record_faultless}
 use Rattle.recovery.specs.declared.grid.SizeRule.TheVariants.{Fixed}
 use Rattle.recovery.specs.declared.grid.AccessRule.{AccessRule}
 use Rattle.recovery.specs.declared.grid.AccessRule.TheVariants as rule
@@ -67,22 +69,26 @@ module _ (block : ℕ) (r : Row) (z : Zone) where
       ∙ passed_after_lem (good_record (block_sectors block) z) (file_tests k r z)
 
   pub misfit_faultless : (k : FileKind) → is_faultless (misfit block k r z) ≡ record_fits block k r z
-  unfolding misfit named
-  misfit_faultless k = none_fails (fit_tests block k r z) refl ∙ fit_passed k
+  unfolding misfit
+  misfit_faultless k = none_fails (fit_tests block k r z) ∙ fit_passed k
 
   -- the record's own fault, or, where it is good, what is wrong with it as this file's
   pub own_fault : (k : FileKind) → is_faultless (record_fault (block_sectors block) z) ≡ false → misfit block k r z ≡ record_fault (block_sectors block) z
   unfolding misfit record_fault
   own_fault k e = found_first (record_tests (block_sectors block) z) (file_tests k r z) e
 
-  pub own_passed : (k : FileKind) → good_record (block_sectors block) z ≡ true → misfit block k r z ≡ first_fault (file_tests k r z)
-  unfolding misfit
-  own_passed k good = passed_on (record_tests (block_sectors block) z) (file_tests k r z) (record_passed (block_sectors block) z ∙ good)
+  pub own_passed : (k : FileKind) → is_faultless (record_fault (block_sectors block) z) ≡ true → misfit block k r z ≡ first_fault (file_tests k r z)
+  unfolding misfit record_fault
+  own_passed k good = passed_on (record_tests (block_sectors block) z) (file_tests k r z) (sym (none_fails (record_tests (block_sectors block) z)) ∙ good)
 
   -- a fault is the first in order: no test before it fails, and its own does
-  pub misfit_first : (k : FileKind) → is_faultless (misfit block k r z) ≡ false → First (misfit block k r z) (fit_tests block k r z)
+  pub misfit_first : (k : FileKind) (x : ZoneFault) → misfit block k r z ≡ Some x → First x (fit_tests block k r z)
   unfolding misfit
-  misfit_first k e = first_fault_lem (fit_tests block k r z) e
+  misfit_first k x e = first_fault_lem x (fit_tests block k r z) e
+
+-- a record without a fault of its own
+pub faultless_bounded : (unit : ℕ) (z : Zone) → is_faultless (record_fault unit z) ≡ true → Bounded z
+faultless_bounded unit z e = record_bounded unit z (sym (record_faultless unit z) ∙ e)
 
 never : Conventional ≡ Sequential → ⊥
 never e = let z : ◌≡◌ {A = ℕ} 0 1 = cc in omega arith
@@ -102,6 +108,10 @@ faultless_fitting block k r z e =
     let own = and_left (good_record (block_sectors block) z && of_file k r z) (no_better k r z) fits in
     fitting (block_sectors block) k r z (and_left (good_record (block_sectors block) z) (of_file k r z) own)
     (and_right (good_record (block_sectors block) z) (of_file k r z) own)
+
+pub own_fitting : (block : ℕ) (k : FileKind) (r : Row) (z : Zone) → is_faultless (record_fault (block_sectors block) z) ≡ true
+    → is_faultless (first_fault (file_tests k r z)) ≡ true → Fitting k z
+own_fitting block k r z own e = faultless_fitting block k r z (ap is_faultless (own_passed block r z k own) ∙ e)
 
 -- one that is healthy gives the file's size
 pub sizing : (k : FileKind) (z : Zone) → Fitting k z → healthy z ≡ true → Sizing k z

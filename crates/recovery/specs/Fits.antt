@@ -1,5 +1,5 @@
 -- 9: "failed completion's zone record doesn't fit", and which test it fails first.
-use Rattle.std.specs.Prelude.{ℕ, ◌+◌, List, [], ◌∷◌, ◌++◌, Bool, true, ◌&&◌, eqb, leb}
+use Rattle.std.specs.Prelude.{ℕ, ◌+◌, List, [], ◌∷◌, ◌++◌, Bool, true, ◌&&◌, eqb, leb, Option}
 use Rattle.types.specs.declared.Row.{Row}
 use Rattle.types.specs.declared.FileKind.{FileKind}
 use Rattle.types.specs.declared.FileKind.TheVariants.{Conventional, Sequential}
@@ -43,5 +43,5 @@ abbrev pub fit_tests : ℕ → FileKind → Row → Zone → List ZoneTest
 fit_tests block k r z = record_tests (block_sectors block) z ++ file_tests k r z
 
 -- the first of these that fails. A record fits exactly if there is none (the law `misfit_faultless`)
-unfoldable pub misfit : ℕ → FileKind → Row → Zone → ZoneFault
+unfoldable pub misfit : ℕ → FileKind → Row → Zone → Option ZoneFault
 misfit block k r z = first_fault (fit_tests block k r z)

@@ -7,8 +7,9 @@ ghost use Rattle.recovery.specs.Fits.{matches_sequential, within_conventional, o
 ghost use Rattle.recovery.specs.Facts.{Fitting};
 
 use types::{FileKind, Row, ZoneFault};
-use zones::{Zone, fault_unless};
+use zones::Zone;
 
+#[tactic(auto, unfolding(crate::specs::Fits::matches_sequential))]
 fn matches_sequential(row: Row, z: Zone) -> bool
     requires { Bounded z }
     ensures { result ≡ matches_sequential row z }
@@ -18,6 +19,7 @@ fn matches_sequential(row: Row, z: Zone) -> bool
         & (types::units::bytes_of(z.capacity) == row.capacity)
 }
 
+#[tactic(auto, unfolding(crate::specs::Fits::within_conventional))]
 fn within_conventional(row: Row, z: Zone) -> bool
     requires { Bounded z × (row.start + row.capacity / sector_bytes ≤ 2 ^ 40) }
     ensures { result ≡ within_conventional row z }
@@ -42,27 +44,28 @@ fn is_no_better(kind: FileKind, row: Row, z: Zone) -> bool
 {
     match kind {
         FileKind::Conventional => true,
-        FileKind::Sequential => {
-            let before = row.condition;
-            let after = zones::condition_of(z);
-            types::codes::condition_code(before) <= types::codes::condition_code(after)
-        }
+        FileKind::Sequential => u64::from(row.condition) <= u64::from(zones::condition_of(z)),
     }
 }
 
 // What is wrong with a good record as that of this file's zone.
-fn file_fault(kind: FileKind, row: Row, z: Zone) -> ZoneFault
+#[tactic(auto, unfolding(zones::specs::Faults::first_fault, zones::specs::Faults::fault_unless))]
+fn file_fault(kind: FileKind, row: Row, z: Zone) -> Option<ZoneFault>
     requires { Bounded z × (row.start + row.capacity / sector_bytes ≤ 2 ^ 40) }
     ensures { result ≡ first_fault (file_tests kind row z) }
 {
-    let own = is_of_file(kind, row, z);
-    let no_better = is_no_better(kind, row, z);
-    let better = fault_unless(no_better, ZoneFault::BetterCondition, ZoneFault::Nothing);
-    fault_unless(own, ZoneFault::OtherZone, better)
+    if !is_of_file(kind, row, z) {
+        return Some(ZoneFault::OtherZone);
+    }
+    if !is_no_better(kind, row, z) {
+        return Some(ZoneFault::BetterCondition);
+    }
+    None
 }
 
 // Why the record doesn't fit its file, if it doesn't. Only a good record is compared with the file: the sums of any other could wrap.
-pub fn misfit(block: u64, kind: FileKind, row: Row, z: Zone) -> ZoneFault
+#[tactic(auto, using(types::proofs::Blocks::block_positive, crate::proofs::Laws::faultless_bounded, crate::proofs::Laws::own_fault, crate::proofs::Laws::own_passed, crate::proofs::Laws::own_fitting))]
+pub fn misfit(block: u64, kind: FileKind, row: Row, z: Zone) -> Option<ZoneFault>
     requires { (good_block block ≡ true) × (row.start + row.capacity / sector_bytes ≤ 2 ^ 40) }
     ensures value { result ≡ misfit block kind row z }
     ensures fitting { is_faultless result ≡ true → Fitting kind z }

@@ -57,11 +57,10 @@ pub fn recovery_grid() -> [[Rule; 3]; 4]
     ]
 }
 
+// By their codes: the definitions `recovery_grid` and `rule_of` of the specs, which may not change, take the table as a value by them.
 pub fn rule_of(grid: [[Rule; 3]; 4], policy: ErrorPolicy, condition: Condition) -> Rule
     ensures { result ≡ rule_of grid policy condition }
 {
-    let i = types::codes::policy_code(policy) as usize;
-    let j = types::codes::condition_code(condition) as usize;
-    let row = grid[i];
-    row[j]
+    let row = grid[u64::from(policy) as usize];
+    row[u64::from(condition) as usize]
 }

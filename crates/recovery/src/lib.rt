@@ -31,11 +31,7 @@ fn is_unharmed(kind: FileKind, z: Zone, size: u64) -> bool
     requires { Fitting kind z }
     ensures { result ≡ unharmed kind z size }
 {
-    if zones::is_healthy(z) {
-        size == fixed_size(kind, z, size)
-    } else {
-        false
-    }
+    zones::is_healthy(z) && (size == fixed_size(kind, z, size))
 }
 
 // A failed read that has nothing to recover.
@@ -62,8 +58,7 @@ fn read_at_most(access: Access) -> Access
 {
     match access {
         Access::Nothing => Access::Nothing,
-        Access::Read => Access::Read,
-        Access::Write => Access::Read,
+        Access::Read | Access::Write => Access::Read,
     }
 }
 
@@ -77,17 +72,15 @@ fn ruled_access(rule: AccessRule, access: Access) -> Access
     }
 }
 
+#[tactic(auto, unfolding(crate::specs::Recovery::recovered_row), using(crate::proofs::Laws::fixed_healthy))]
 pub fn recovered_row(policy: ErrorPolicy, kind: FileKind, z: Zone, row: Row) -> Row
     requires { Fitting kind z }
     ensures { result ≡ recovered_row policy kind z row }
 {
     let condition = zones::condition_of(z);
     let rule = grid::rule_of(grid::recovery_grid(), policy, condition);
-    let size_rule = rule.size;
-    let access_rule = rule.access;
-    let before = row.access;
-    let size = ruled_size(size_rule, kind, z, row.size);
-    let access = ruled_access(access_rule, before);
+    let size = ruled_size(rule.size, kind, z, row.size);
+    let access = ruled_access(rule.access, row.access);
     table::recovered_to(row, size, condition, access)
 }
 
@@ -95,10 +88,9 @@ pub fn recovered_row(policy: ErrorPolicy, kind: FileKind, z: Zone, row: Row) -> 
 pub fn kept_open(failed: CommandKind, row: Row) -> Row
     ensures { result ≡ kept_open failed row }
 {
-    let a = row.access;
-    if types::commands::is_opening(failed) | !types::predicates::is_write(a) {
+    if types::commands::is_opening(failed) | !types::predicates::is_write(row.access) {
         table::with_opens(row, 0)
     } else {
-        table::with_opens(row, row.opens)
+        row
     }
 }

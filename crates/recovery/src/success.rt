@@ -30,8 +30,7 @@ pub fn row_after(kind: FileKind, done: Command, row: Row) -> Row
     requires { row.size + done.length < 2 ^ 64 }
     ensures { result ≡ row_after kind done row }
 {
-    let command = done.kind;
-    let movement = types::commands::movement_of(command);
+    let movement = types::commands::movement_of(done.kind);
     let size = size_after(kind, movement, done.length, row);
     table::with_size(row, size)
 }

@@ -1,5 +1,6 @@
 -- What a good header and a good report tell, and the zones of a report one by one.
 -- Assumes nothing.
+use Rattle.std.specs.Prelude.{Ok, Err}
 use mathlib.Core.Path.{◌≡◌, refl, ap, ◌∙◌}
 use mathlib.Core.List.{List, [], ◌∷◌}
 use mathlib.Core.Bool.{true, false, not}
@@ -13,7 +14,6 @@ use lib.Dec.{leb, eqb}
 use Rattle.types.specs.Blocks.{most_zones}
 use Rattle.types.specs.Verdicts.{refuse}
 use Rattle.types.specs.declared.Refusal.TheVariants.{BadReport, BadZone}
-use Rattle.types.specs.declared.Verdict.TheVariants.{Passed, Refused}
 use Rattle.types.proofs.Tests.{and_left, and_right}
 use Rattle.types.proofs.VerdictLaws.{check_passed, check_passes}
 use Rattle.zones.specs.declared.Zone.{Zone}
@@ -70,11 +70,11 @@ unfolding zones_check refuse
 check_good unit n e z zs l q g = rw (q, g)
 
 pub check_bad : (unit n e : ℕ) (z : Zone) (zs l : List Zone) → l ≡ z ∷ zs → good_zone unit e z ≡ false
-    → zones_check unit n e l ≡ Refused (BadZone n (zone_fault unit e z))
+    → zones_check unit n e l ≡ Err (BadZone n (zone_fault unit e z))
 unfolding zones_check refuse
 check_bad unit n e z zs l q g = rw (q, g)
 
-pub check_done : (unit n e : ℕ) (l : List Zone) → l ≡ [] → zones_check unit n e l ≡ Passed
+pub check_done : (unit n e : ℕ) (l : List Zone) → l ≡ [] → zones_check unit n e l ≡ Ok tt
 unfolding zones_check
 check_done unit n e l q = rw q
 
@@ -91,14 +91,14 @@ all_bounded unit e [] h = tt
 all_bounded unit e (z ∷ zs) h = ((zone-told unit e z h.0).0, zone_bounded unit e z h.0, all_bounded unit (z.start + z.length) zs h.1)
 
 -- the check finds nothing exactly where all are good
-zones_told : (unit n e : ℕ) (zs : List Zone) → zones_check unit n e zs ≡ Passed → AllGood unit e zs
+zones_told : (unit n e : ℕ) (zs : List Zone) → zones_check unit n e zs ≡ Ok tt → AllGood unit e zs
 unfolding zones_check AllGood
 zones_told unit n e [] h = tt
 zones_told unit n e (z ∷ zs) h =
     let p = check_passed (BadZone n (zone_fault unit e z)) h in
     (not-false (good_zone unit e z) p.0, zones_told unit (n + 1) (z.start + z.length) zs p.1)
 
-zones_good : (unit n e : ℕ) (zs : List Zone) → AllGood unit e zs → zones_check unit n e zs ≡ Passed
+zones_good : (unit n e : ℕ) (zs : List Zone) → AllGood unit e zs → zones_check unit n e zs ≡ Ok tt
 unfolding zones_check AllGood
 zones_good unit n e [] h = refl
 zones_good unit n e (z ∷ zs) h = check_passes (BadZone n (zone_fault unit e z)) (ap not h.0) (zones_good unit (n + 1) (z.start + z.length) zs h.1)
@@ -110,12 +110,12 @@ pub record GoodReport (unit : ℕ) (b : List ℕ) : Type 0 where
   pub header : good_header b ≡ true
   pub zones : AllGood unit 0 (zones_of b)
 
-pub report-told : (unit : ℕ) (b : List ℕ) → report_check unit b ≡ Passed → GoodReport unit b
+pub report-told : (unit : ℕ) (b : List ℕ) → report_check unit b ≡ Ok tt → GoodReport unit b
 unfolding report_check
 report-told unit b h =
     let p = check_passed BadReport h in
     record { header = not-false (good_header b) p.0; zones = zones_told unit 0 0 (zones_of b) p.1 }
 
-pub report_good : (unit : ℕ) (b : List ℕ) → GoodReport unit b → report_check unit b ≡ Passed
+pub report_good : (unit : ℕ) (b : List ℕ) → GoodReport unit b → report_check unit b ≡ Ok tt
 unfolding report_check
 report_good unit b g = check_passes BadReport (ap not g.header) (zones_good unit 0 0 (zones_of b) g.zones)

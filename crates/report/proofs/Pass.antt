@@ -1,5 +1,6 @@
 -- The pass that checks a report's zones: it has come to a walk, and finds what is found from there on.
 -- Assumes nothing.
+use Rattle.std.specs.Prelude.{Option, Ok, Err}
 use mathlib.Core.Path.{◌≡◌, refl, ap, ◌∙◌, sym, subst}
 use mathlib.Core.List.{List}
 use mathlib.Core.Bool.{Bool, true, false}
@@ -8,7 +9,6 @@ use native.Mathlib.Omega.{arith}
 use lib.ListN.{drop}
 use Rattle.types.specs.Blocks.{most_zones}
 use Rattle.types.specs.declared.Refusal.TheVariants.{BadZone}
-use Rattle.types.specs.declared.Verdict.TheVariants.{Passed, Refused}
 use Rattle.types.specs.declared.ZoneFault.{ZoneFault}
 use Rattle.zones.specs.declared.Zone.{Zone}
 use Rattle.zones.specs.Zone.{good_zone}
@@ -34,7 +34,7 @@ module _ (unit : ℕ) (aggregate : Bool) (b : List ℕ) where
 
   module _ (w : Walk) (so : Checking unit aggregate b w) where
     -- no zone is left
-    pub checking_done : zone_count b ≤ w.number → (Passed ≡ zones_check unit 0 0 (zones_of b)) × (w ≡ walked aggregate begun (zones_of b))
+    pub checking_done : zone_count b ≤ w.number → ((Ok tt) ≡ zones_check unit 0 0 (zones_of b)) × (w ≡ walked aggregate begun (zones_of b))
     unfolding walked
     checking_done h =
         let none = zones_done b w.number h in
@@ -42,10 +42,10 @@ module _ (unit : ℕ) (aggregate : Bool) (b : List ℕ) where
 
     module _ (z : Zone) (read : z ≡ report_zone b w.number) (here : w.number < zone_count b) where
       -- a bad zone ends it
-      pub checking_bad : (x : ZoneFault) → x ≡ zone_fault unit w.expected z → good_zone unit w.expected z ≡ false
-          → Refused (BadZone w.number x) ≡ zones_check unit 0 0 (zones_of b)
+      pub checking_bad : (x : Option ZoneFault) → x ≡ zone_fault unit w.expected z → good_zone unit w.expected z ≡ false
+          → Err (BadZone w.number x) ≡ zones_check unit 0 0 (zones_of b)
       checking_bad x e bad =
-          ap (λ y. Refused (BadZone w.number y)) e
+          ap (λ y. Err (BadZone w.number y)) e
           ∙ sym (check_bad unit w.number w.expected z _ _ (zones_next b w.number z read here) bad)
           ∙ so.check
 

@@ -1,7 +1,6 @@
 -- What a good header tells: functions that are called only after its test ask for it. And what 29 tells.
-use Rattle.std.specs.Prelude.{ℕ, ◌+◌, ◌*◌, ◌≤◌, ◌≡◌, List, [], ◌∷◌, ◌++◌, length}
+use Rattle.std.specs.Prelude.{ℕ, ◌+◌, ◌*◌, ◌≤◌, ◌≡◌, List, [], ◌∷◌, ◌++◌, length, Option, Some, Ok}
 use Rattle.types.specs.Blocks.{most_zones}
-use Rattle.types.specs.declared.Verdict.TheVariants.{Passed}
 use Rattle.types.specs.declared.ZoneFault.{ZoneFault}
 use Rattle.zones.specs.declared.Zone.{Zone}
 use Rattle.zones.specs.Zone.{zone_bytes}
@@ -21,11 +20,13 @@ end_of expected (z ∷ zs) = end_of (z.start + z.length) zs
 
 -- of 29 with this zone number and reason, where the first zone has the number `first` and is to start at `expected`: no zone before it is bad, and
 -- of its own tests none before the reason's fails
-pub record Lowest (unit first expected : ℕ) (zs : List Zone) (number : ℕ) (reason : ZoneFault) : Type 0 where
+pub record Lowest (unit first expected : ℕ) (zs : List Zone) (number : ℕ) (reason : Option ZoneFault) : Type 0 where
   pub before : List Zone
   pub bad : Zone
   pub after : List Zone
   pub order : zs ≡ before ++ (bad ∷ after)
   pub at : first + length before ≡ number
-  pub passed : zones_check unit first expected before ≡ Passed
-  pub because : First reason (zone_tests unit (end_of expected before) bad)
+  pub passed : zones_check unit first expected before ≡ Ok tt
+  pub fault : ZoneFault
+  pub told : reason ≡ Some fault
+  pub because : First fault (zone_tests unit (end_of expected before) bad)

@@ -1,14 +1,16 @@
 -- A zone report: its header, its zones as a list, its bytes, and what its checks find.
-use Rattle.std.specs.Prelude.{ℕ, zero, suc, ◌+◌, ◌*◌, List, [], ◌∷◌, ◌++◌, Bool, not, ◌&&◌, length, leb, eqb}
+use Rattle.std.specs.Prelude.{ℕ, zero, suc, ◌+◌, ◌*◌, List, [], ◌∷◌, ◌++◌, Bool, not, ◌&&◌, length, leb, eqb, Result, Ok}
 use Rattle.types.specs.Blocks.{most_zones}
-use Rattle.types.specs.Verdicts.{refuse}
+use Rattle.types.specs.Verdicts.{refuse, giving}
+use Rattle.types.specs.declared.Refusal.{Refusal}
 use Rattle.types.specs.declared.Refusal.TheVariants.{BadReport, BadZone}
-use Rattle.types.specs.declared.Verdict.{Verdict}
-use Rattle.types.specs.declared.Verdict.TheVariants.{Passed}
+use Rattle.types.specs.Answers.{Verdict}
 use Rattle.wire.specs.Le.{le, little}
 use Rattle.zones.specs.declared.Zone.{Zone}
 use Rattle.zones.specs.Zone.{zone_bytes, zone_at, encode_zone, good_zone}
 use Rattle.zones.specs.Faults.{zone_fault}
+use Rattle.files.specs.declared.Walk.{Walk}
+use Rattle.files.specs.Walk.{begun, walked}
 
 -- ---- its header
 
@@ -62,7 +64,7 @@ encode_report zs = little 8 0 ++ (little 4 (length zs) ++ (little 4 1 ++ encode_
 -- "bad zone, with the lowest zone number" is 29; "the first starts at 0, each next where the last ended". 02: "A bad zone's refusal carries a
 -- reason, the first of"
 unfoldable pub zones_check : ℕ → ℕ → ℕ → List Zone → Verdict
-zones_check unit number expected [] = Passed
+zones_check unit number expected [] = Ok tt
 zones_check unit number expected (z ∷ zs) =
     refuse (not (good_zone unit expected z)) (BadZone number (zone_fault unit expected z))
     (zones_check unit (number + 1) (z.start + z.length) zs)
@@ -70,3 +72,7 @@ zones_check unit number expected (z ∷ zs) =
 -- "report header or length" is 28
 unfoldable pub report_check : ℕ → List ℕ → Verdict
 report_check unit b = refuse (not (good_header b)) BadReport (zones_check unit 0 0 (zones_of b))
+
+-- and the walk over its zones, where it is good input
+abbrev pub report_read : ℕ → Bool → List ℕ → Result Walk Refusal
+report_read unit aggregate b = giving (report_check unit b) (walked aggregate begun (zones_of b))

@@ -1,18 +1,18 @@
 // A zone report: its header, a reader that holds the lent report and its next zone number, and the pass that checks its zones and
-// counts its files. Each function over the reader is thin and proved by a walk by hand; `report_zone` does the work. Callers read by
-// `read_zone`, whose parameters are plain.
+// counts its files. Each function over the reader is thin; `report_zone` does the work. Callers read by `read_zone`, whose parameters are
+// plain.
 #![tactic(auto)]
 
-ghost use Rattle.std.specs.Prelude.{◌≡◌, ◌≤◌, ◌<◌, length};
-ghost use Rattle.types.specs.declared.Verdict.TheVariants.{Passed};
+ghost use Rattle.std.specs.Prelude.{◌≡◌, ◌≤◌, ◌<◌, length, IfOk};
+ghost use Rattle.types.specs.Verdicts.{giving};
 ghost use Rattle.files.specs.Walk.{begun, walked};
 ghost use Rattle.files.specs.Facts.{BoundedWalk};
-ghost use Rattle.report.specs.Report.{header_bytes, zone_count, capacity_given, good_fields, good_header, report_zone, zones_of, zones_check, report_check};
+ghost use Rattle.report.specs.Report.{header_bytes, zone_count, capacity_given, good_fields, good_header, report_zone, zones_of, zones_check, report_read};
 ghost use Rattle.report.specs.Facts.{Framed};
 
 use files::Walk;
+use types::Refusal;
 use types::units::MOST_ZONES;
-use types::{Refusal, Verdict};
 use zones::{ZONE_BYTES, Zone};
 
 // A header's bytes, and where its fields stand.
@@ -27,17 +27,11 @@ const FLAGS_AT: usize = 12;
 // The flag of given capacities. There is no other.
 const CAPACITY_GIVEN: u32 = 1;
 
+// It stays a report and a number with thin functions over them, as docs/TRACE.md tells of its promise.
 #[derive(Clone, Copy)]
 pub struct Reader<'a> {
     pub report: &'a [u8],
     pub next: usize,
-}
-
-// What the checks of a report find, and the walk over its zones, to the end where they find nothing.
-#[derive(Clone, Copy)]
-pub struct ReportRead {
-    pub check: Verdict,
-    pub walk: Walk,
 }
 
 // The number of zones that the header states.
@@ -68,6 +62,7 @@ pub fn good_fields(b: &[u8]) -> bool
 }
 
 // The report's header and its length are right.
+#[tactic(auto, unfolding(crate::specs::Report::good_header))]
 fn good_header(b: &[u8]) -> bool
     ensures { result ≡ good_header b.now }
 {
@@ -123,48 +118,34 @@ pub fn read_zone(report: &[u8], i: usize) -> Zone
 }
 
 // Checks each zone where the one before it ended, and takes it into the walk. Stops at the first that has a fault.
-fn check_zones(report: &[u8], unit: u64, aggregate: bool) -> ReportRead
+#[tactic(auto, unfolding(crate::specs::Report::zones_check, crate::specs::Report::zones_of, files::specs::Walk::walked))]
+fn check_zones(report: &[u8], unit: u64, aggregate: bool) -> Result<Walk, Refusal>
     requires { Framed report.now × (0 < unit) }
-    ensures check { result.check ≡ zones_check unit 0 0 (zones_of report.now) }
-    ensures walk { result.check ≡ Passed → result.walk ≡ walked aggregate begun (zones_of report.now) }
-    ensures bounded { BoundedWalk result.walk }
+    ensures value { result ≡ giving (zones_check unit 0 0 (zones_of report.now)) (walked aggregate begun (zones_of report.now)) }
+    ensures bounded { IfOk result BoundedWalk }
 {
     let count = zone_count(report);
     let mut walk = files::begin();
+    // It stays a `while`: the number is the walk's own, and a `for` would count it a second time.
     while walk.number < count {
         let z = read_zone(report, walk.number);
         let fault = zones::zone_fault(z, walk.expected, unit);
-        if zones::is_faultless(fault) {
-            walk = files::step(aggregate, walk, z);
-        } else {
-            let number = walk.number as u32;
-            let bad = Refusal::BadZone(number, fault);
-            return ReportRead {
-                check: Verdict::Refused(bad),
-                walk,
-            };
+        if !zones::is_faultless(fault) {
+            return Err(Refusal::BadZone(walk.number as u32, fault));
         }
+        walk = files::step(aggregate, walk, z);
     }
-    ReportRead {
-        check: Verdict::Passed,
-        walk,
-    }
+    Ok(walk)
 }
 
-// The checks of a report: its header and length, then each zone.
-pub fn check_report(report: &[u8], unit: u64, aggregate: bool) -> ReportRead
+// The checks of a report: its header and length, then each zone. What passes them gives the walk over its zones, to the end.
+pub fn check_report(report: &[u8], unit: u64, aggregate: bool) -> Result<Walk, Refusal>
     requires { 0 < unit }
-    ensures check { result.check ≡ report_check unit report.now }
-    ensures walk { result.check ≡ Passed → result.walk ≡ walked aggregate begun (zones_of report.now) }
-    ensures bounded { BoundedWalk result.walk }
+    ensures value { result ≡ report_read unit aggregate report.now }
+    ensures bounded { IfOk result BoundedWalk }
 {
-    if good_header(report) {
-        check_zones(report, unit, aggregate)
-    } else {
-        let walk = files::begin();
-        ReportRead {
-            check: Verdict::Refused(Refusal::BadReport),
-            walk,
-        }
+    if !good_header(report) {
+        return Err(Refusal::BadReport);
     }
+    check_zones(report, unit, aggregate)
 }

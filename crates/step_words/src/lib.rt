@@ -10,30 +10,30 @@ ghost use Rattle.answer_words.specs.Answers.{answer_length, answer_words, writte
 ghost use Rattle.engine.specs.Engine.{Input};
 ghost use Rattle.step_words.specs.Words.{usable, step_words};
 
-use types::{Answer, Call};
-
-// "mount value or tables impossible"
-pub const IMPOSSIBLE: u64 = 10;
+use types::{Call, Granted, Refusal};
 
 // The words hold a mount value with its account, and the answer has room.
+#[tactic(auto, unfolding(crate::specs::Words::usable))]
 pub fn is_usable(w: &[u64], account: &[u64], room: usize) -> bool
     ensures value { result ≡ usable w.now account.now room }
     ensures mount_length_in_bounds { result ≡ true → (mount_length ≤ length w.now) × (account_length ≤ length account.now) × (answer_length ≤ room) }
 {
-    mount_words::is_possible(w, account) & (answer_words::ANSWER_WORDS <= room)
+    mount_words::is_possible(w, account) && answer_words::ANSWER_WORDS <= room
 }
 
 // Puts an answer into its words, and gives its number. The mount's words are put by the callers: with both in one function the whole outcome
 // would be handed over in memory.
-fn tell(a: &mut [u64], x: Answer) -> u64
+#[tactic(auto, unfolding(answer_words::specs::Answers::answer_words))]
+fn tell(a: &mut [u64], x: Result<Granted, Refusal>) -> u64
     requires { answer_length ≤ length a.old }
     ensures { (answer_number x ≡ result) × (written a.old (answer_words (answer_values x)) ≡ a.new) }
 {
-    answer_words::put_values(a, answer_words::answer_values(x));
-    types::answers::answer_number(x)
+    answer_words::tell(a, x, answer_words::answer_values(x))
 }
 
-// A call, with the words of the mount, of its account and of the answer.
+// A call, with the words of the mount, of its account and of the answer. `end_command` differs in the engine's function alone: a closure for that, lent
+// both tables, would need its own contract told of by `post`, which is no plainer than the five lines that they share.
+#[tactic(auto, unfolding(crate::specs::Words::step_words))]
 pub fn call(
     w: &mut [u64],
     account: &mut [u64],
@@ -47,17 +47,16 @@ pub fn call(
     ensures { step_words w.old account.old cnv.old seq.old (Input.call kind number x) a.old ≡ record { number = result; mount = w.new; account = account.new; cnv = cnv.new; seq = seq.new; answer = a.new } }
 {
     if !is_usable(&w[..], &account[..], a.len()) {
-        return IMPOSSIBLE;
+        return types::answers::refusal_number(Refusal::Impossible);
     }
     let m = mount_words::mount_from(&w[..], &account[..]);
     let o = engine::call(m, cnv, seq, kind as u64, number, x);
-    let after = o.mount;
-    let reply = o.answer;
-    mount_words::put_state(w, account, after);
-    tell(a, reply)
+    mount_words::put_state(w, account, o.mount);
+    tell(a, o.answer)
 }
 
 // The end of a file's outstanding command, with the words of the mount, of its account and of the answer.
+#[tactic(auto, unfolding(crate::specs::Words::step_words))]
 pub fn end_command(
     w: &mut [u64],
     account: &mut [u64],
@@ -73,12 +72,10 @@ pub fn end_command(
     ensures { step_words w.old account.old cnv.old seq.old (Input.completion kind number (completion_by done given bytes.now)) a.old ≡ record { number = result; mount = w.new; account = account.new; cnv = cnv.new; seq = seq.new; answer = a.new } }
 {
     if !is_usable(&w[..], &account[..], a.len()) {
-        return IMPOSSIBLE;
+        return types::answers::refusal_number(Refusal::Impossible);
     }
     let m = mount_words::mount_from(&w[..], &account[..]);
     let o = engine::end_command(m, cnv, seq, kind as u64, number, done, bytes, given);
-    let after = o.mount;
-    let reply = o.answer;
-    mount_words::put_state(w, account, after);
-    tell(a, reply)
+    mount_words::put_state(w, account, o.mount);
+    tell(a, o.answer)
 }

@@ -1,5 +1,7 @@
 -- What a super block gives is within its types, by its bytes.
 -- Assumes nothing.
+use Rattle.types.specs.Verdicts.{giving}
+use Rattle.std.specs.Prelude.{Ok, Err}
 use mathlib.Core.Path.{◌≡◌, refl}
 use mathlib.Core.List.{List, [], ◌∷◌}
 use mathlib.Core.Bool.{Bool, true, false, cond}
@@ -7,11 +9,10 @@ use Prim.Native.Nat.{ℕ, zero, suc, ◌+◌, ◌^◌, ◌<◌}
 use native.Mathlib.Omega.{arith}
 use lib.ListN.{length, get_or, take, drop, replicate, length-drop}
 use lib.Seq.{length-take-le, get_or-drop}
-use Rattle.types.specs.declared.Verdict.{Verdict}
-use Rattle.types.specs.declared.Verdict.TheVariants as verdict
+use Rattle.types.specs.Answers.{Verdict}
 use Rattle.wire.proofs.Laws.{le_below}
 use Rattle.superblock.specs.declared.SuperBlock.{SuperBlock}
-use Rattle.superblock.specs.SuperBlock.{features_at, uid_at, gid_at, perm_at, has_uid, has_gid, has_perm, super_check, fields_of, read_as, super_read}
+use Rattle.superblock.specs.SuperBlock.{features_at, uid_at, gid_at, perm_at, has_uid, has_gid, has_perm, super_check, fields_of, super_read, fields_in}
 use Rattle.superblock.proofs.Told.{super_told}
 
 pub record BoundedFields (f : SuperBlock) : Type 0 where
@@ -37,9 +38,9 @@ zero_bytes (suc n) zero = omega arith
 zero_bytes (suc n) (suc k) = zero_bytes n k
 
 module _ (b : List ℕ) (bytes : (k : ℕ) → get_or b k 0 < 256) where
-  read_bounded : (found : Verdict) → super_check b ≡ found → BoundedFields (read_as found b).fields
+  read_bounded : (found : Verdict) → super_check b ≡ found → BoundedFields (fields_in (giving found (fields_of b)))
   unfolding fields_of
-  read_bounded verdict.Passed e =
+  read_bounded (Ok tt) e =
       record {
         owner = either_small (has_uid (features_at b)) (uid_at b) 0 (le_below 4 b 96 bytes) (omega arith);
         group = either_small (has_gid (features_at b)) (gid_at b) 0 (le_below 4 b 100 bytes) (omega arith);
@@ -47,9 +48,9 @@ module _ (b : List ℕ) (bytes : (k : ℕ) → get_or b k 0 < 256) where
         bytes = take_bytes 16 (drop 72 b) (λ k. omega (arith, get_or-drop 72 b k 0, bytes (72 + k)));
         sixteen = length-take-le 16 (drop 72 b) (omega (arith, length-drop 72 b, (super_told b e).size));
       }
-  read_bounded (verdict.Refused x) e =
+  read_bounded (Err x) e =
       record { owner = omega arith; group = omega arith; mode = omega arith; bytes = zero_bytes 16; sixteen = refl }
 
-  pub fields_bounded : BoundedFields (super_read b).fields
+  pub fields_bounded : BoundedFields (fields_in (super_read b))
   unfolding super_read
   fields_bounded = read_bounded (super_check b) refl

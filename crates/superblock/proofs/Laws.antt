@@ -1,27 +1,15 @@
--- Laws of the bytes of a super block, walked from an index on.
+-- Laws of the bytes of a super block.
 -- Assumes nothing.
-use Prim.Native.Nat.{ℕ, ◌+◌, ◌≤◌, ◌<◌}
-use native.Mathlib.Numerals.{add-one}
-use mathlib.Core.Path.{◌≡◌}
-use mathlib.Core.Logic.{◌≢◌}
-use mathlib.Core.Bool.{true, false}
-use mathlib.Core.List.{List}
-use lib.ListN.{length, drop, get_or, drop_of_length-le}
-use lib.Seq.{drop-cons}
-use borrow.Author.Tests.{eq-eqb, ne_eqb}
+use Prim.Native.Nat.{ℕ}
+use mathlib.Core.Path.{◌≡◌, refl, ap}
+use mathlib.Core.Bool.{Bool, not, ◌||◌}
+use mathlib.Core.List.{List, [], ◌∷◌}
+use lib.Dec.{eqb}
+use Rattle.std.specs.List.{list_any}
 use Rattle.superblock.specs.SuperBlock.{nonzero}
 
--- byte i isn't zero
-pub nonzero_here : (b : List ℕ) (i : ℕ) → i < length b → get_or b i 0 ≢ 0 → nonzero (drop i b) ≡ true
+-- one that isn't zero is there: what the search of them answers
+pub nonzero_any : (b : List ℕ) → list_any (λ x. not (eqb x 0)) b ≡ nonzero b
 unfolding nonzero
-nonzero_here b i h d = rw (drop-cons b i 0, ne_eqb (get_or b i 0) 0 d)
-
--- byte i is zero, and those after it decide
-pub nonzero_next : (b : List ℕ) (i : ℕ) → i < length b → get_or b i 0 ≡ 0 → nonzero (drop (i + 1) b) ≡ nonzero (drop i b)
-unfolding nonzero
-nonzero_next b i h e = rw (add-one, drop-cons b i 0, eq-eqb (get_or b i 0) 0 e)
-
--- no byte is left
-pub nonzero_end : (b : List ℕ) (i : ℕ) → length b ≤ i → nonzero (drop i b) ≡ false
-unfolding nonzero
-nonzero_end b i h = rw (drop_of_length-le b)
+nonzero_any [] = refl
+nonzero_any (x ∷ xs) = ap (λ (r : Bool). not (eqb x 0) || r) (nonzero_any xs)

@@ -1,5 +1,9 @@
 -- What an accepted super block tells, check by check. Whoever uses this opens no chain.
 -- Assumes nothing.
+use Rattle.superblock.specs.declared.SuperBlock.{SuperBlock}
+use Rattle.types.specs.declared.Refusal.{Refusal}
+use Rattle.types.specs.Verdicts.{giving}
+use Rattle.std.specs.Prelude.{Ok, Err}
 use Prim.Native.Nat.{ℕ}
 use mathlib.Core.Path.{◌≡◌, refl}
 use mathlib.Core.Bool.{false}
@@ -7,11 +11,10 @@ use mathlib.Core.List.{List}
 use lib.ListN.{length}
 use borrow.Author.Tests.{eqb-true, not-false}
 use Rattle.types.specs.declared.Refusal.TheVariants.{SuperLength, SuperMagic, SuperChecksum, SuperFeatures, SuperOwner, SuperPerm, SuperTail}
-use Rattle.types.specs.declared.Verdict.{Verdict}
-use Rattle.types.specs.declared.Verdict.TheVariants.{Passed, Refused}
-use Rattle.types.proofs.VerdictLaws.{check_passed, check_passes}
+use Rattle.types.specs.Answers.{Verdict}
+use Rattle.types.proofs.VerdictLaws.{check_passed, check_passes, given, not_given}
 use Rattle.crc32.specs.Crc.{superblock_crc}
-use Rattle.superblock.specs.SuperBlock.{super_length, magic_at, magic, checksum_at, features_at, uid_at, gid_at, perm_at, has_perm, unknown_features, no_owner, wrong_perm, values_check, nonzero_tail, super_check, read_as, super_read}
+use Rattle.superblock.specs.SuperBlock.{super_length, magic_at, magic, checksum_at, features_at, uid_at, gid_at, perm_at, has_perm, unknown_features, no_owner, wrong_perm, values_check, nonzero_tail, super_check, super_read, found_in, fields_of}
 
 -- of its values
 pub record GoodValues (features uid gid perm : ℕ) : Type 0 where
@@ -19,7 +22,7 @@ pub record GoodValues (features uid gid perm : ℕ) : Type 0 where
   pub owned : no_owner features uid gid ≡ false
   pub moded : wrong_perm (has_perm features) perm ≡ false
 
-pub values_told : {features uid gid perm : ℕ} {rest : Verdict} → values_check features uid gid perm rest ≡ Passed → GoodValues features uid gid perm × (rest ≡ Passed)
+pub values_told : {features uid gid perm : ℕ} {rest : Verdict} → values_check features uid gid perm rest ≡ Ok tt → GoodValues features uid gid perm × (rest ≡ Ok tt)
 values_told e =
     let (known, owner) = check_passed SuperFeatures e in
     let (owned, mode) = check_passed SuperOwner owner in
@@ -37,7 +40,7 @@ pub record Told (b : List ℕ) : Type 0 where
   pub values : GoodValues (features_at b) (uid_at b) (gid_at b) (perm_at b)
   pub tail_zero : nonzero_tail b ≡ false
 
-pub super_told : (b : List ℕ) → super_check b ≡ Passed → Told b
+pub super_told : (b : List ℕ) → super_check b ≡ Ok tt → Told b
 unfolding super_check
 super_told b e =
     let (size, fields) = check_passed SuperLength e in
@@ -52,11 +55,20 @@ super_told b e =
       tail_zero = (check_passed SuperTail tail).0;
     }
 
--- the verdict that stands beside the fields
-pub check_read : (b : List ℕ) → (super_read b).check ≡ super_check b
+-- what was found of it
+pub check_read : (b : List ℕ) → found_in (super_read b) ≡ super_check b
 unfolding super_read
 check_read b = by (super_check b)
   where
-    by : (v : Verdict) → (read_as v b).check ≡ v
-    by Passed = refl
-    by (Refused x) = refl
+    by : (v : Verdict) → found_in (giving v (fields_of b)) ≡ v
+    by (Ok tt) = refl
+    by (Err x) = refl
+
+-- so one that is read was found good, and one that is refused was refused by the checks
+pub read_passed : (b : List ℕ) {f : SuperBlock} → super_read b ≡ Ok f → super_check b ≡ Ok tt
+unfolding super_read
+read_passed b e = (given (super_check b) e).0
+
+pub read_refused : (b : List ℕ) {x : Refusal} → super_read b ≡ Err x → super_check b ≡ Err x
+unfolding super_read
+read_refused b e = not_given (super_check b) (fields_of b) e

@@ -1,6 +1,7 @@
 -- A super block that is written from values holds them and is accepted exactly if they are, and one that is accepted is what is written from
 -- its own values.
 -- Assumes nothing.
+use Rattle.std.specs.Prelude.{Ok}
 use Prim.Native.Nat.{ℕ, ◌+◌, ◌-◌, ◌^◌, ◌≤◌, ◌<◌}
 use native.Mathlib.Omega.{arith}
 use mathlib.Core.Path.{◌≡◌, refl, ap, sym, ◌∙◌}
@@ -10,7 +11,6 @@ use lib.Dec.{eqb}
 use lib.ListN.{length, get_or, drop, replicate, length-drop}
 use borrow.Author.Tests.{eq-eqb, eqb-true, not-false}
 use Rattle.types.specs.declared.Refusal.TheVariants.{SuperLength, SuperMagic, SuperChecksum, SuperTail}
-use Rattle.types.specs.declared.Verdict.TheVariants.{Passed}
 use Rattle.types.specs.Verdicts.{refuse}
 use Rattle.types.proofs.VerdictLaws.{check_passes}
 use Rattle.types.proofs.Tests.{or_left, or_right}
@@ -48,26 +48,23 @@ module _ (label uuid : List ℕ) (features uid gid perm : ℕ) where
         encoded sum label uuid features uid gid perm (checksum_small 0 label uuid features uid gid perm t.label_bytes t.uuid_bytes)
         t.label_size t.uuid_size t.features_small t.uid_small t.gid_small t.perm_small
 
-    pub written_check : super_check (super_bytes label uuid features uid gid perm) ≡ values_check features uid gid perm Passed
+    pub written_check : super_check (super_bytes label uuid features uid gid perm) ≡ values_check features uid gid perm (Ok tt)
     unfolding super_check super_bytes
     written_check =
-        let tail : refuse (nonzero_tail (encode_super sum label uuid features uid gid perm)) SuperTail Passed ≡ Passed = check_passes SuperTail holds.tail_zero refl in
+        let tail : refuse (nonzero_tail (encode_super sum label uuid features uid gid perm)) SuperTail (Ok tt) ≡ (Ok tt) = check_passes SuperTail holds.tail_zero refl in
         check_passes SuperLength (ap not (eq-eqb _ _ holds.size))
         (check_passes SuperMagic (ap not (eq-eqb _ _ holds.magic-is))
         (check_passes SuperChecksum (ap not (eq-eqb _ _ (holds.checksum_is ∙ sym (sum_is sum))))
         (rw (holds.features_is, holds.uid_is, holds.gid_is, holds.perm_is, tail))))
 
     -- and what a mount reads then: the values, those without their bit ignored
-    pub written_read : GoodValues features uid gid perm → super_read (super_bytes label uuid features uid gid perm) ≡ record {
-      check = Passed;
-      fields = record {
-        aggregate = aggregates features;
-        owner = id_of (has_uid features) uid;
-        group = id_of (has_gid features) gid;
-        mode = mode_of (has_perm features) perm;
-        uuid = uuid;
-      };
-    }
+    pub written_read : GoodValues features uid gid perm → super_read (super_bytes label uuid features uid gid perm) ≡ Ok (record {
+      aggregate = aggregates features;
+      owner = id_of (has_uid features) uid;
+      group = id_of (has_gid features) gid;
+      mode = mode_of (has_perm features) perm;
+      uuid = uuid;
+    })
     unfolding super_read fields_of super_bytes
     written_read good =
         rw (written_check ∙ values_pass good refl, holds.features_is, holds.uid_is, holds.gid_is, holds.perm_is, holds.uuid-is)
@@ -97,7 +94,7 @@ module _ (b : List ℕ) (bytes : (k : ℕ) → get_or b k 0 < 256) (size : lengt
       let at_label = joined b _ _ 8 label_length refl at-uuid in
       joined b _ _ 0 4 (ap (little 4) (sym m) ∙ little-le 4 b 0 bytes (omega arith)) (number 4 4 _ (omega arith) at_label)
 
-module _ (b : List ℕ) (bytes : (k : ℕ) → get_or b k 0 < 256) (passed : super_check b ≡ Passed) where
+module _ (b : List ℕ) (bytes : (k : ℕ) → get_or b k 0 < 256) (passed : super_check b ≡ Ok tt) where
   pub written_again : super_bytes (label_at b) (uuid_at b) (features_at b) (uid_at b) (gid_at b) (perm_at b) ≡ b
   unfolding super_bytes
   written_again =

@@ -1,14 +1,12 @@
 -- The super block, "the first sector": its fields, when it is refused, and what it gives.
-use Rattle.std.specs.Prelude.{ℕ, ◌-◌, ◌/◌, ◌%◌, ◌^◌, Bool, false, cond, not, ◌&&◌, ◌||◌, List, [], ◌∷◌, ◌++◌, length, take, drop, replicate, leb, ltb, eqb}
+use Rattle.std.specs.Prelude.{ℕ, ◌-◌, ◌/◌, ◌%◌, ◌^◌, Bool, false, cond, not, ◌&&◌, ◌||◌, List, [], ◌∷◌, ◌++◌, length, take, drop, replicate, leb, ltb, eqb, Ok, Err, Result}
 use Rattle.types.specs.declared.Refusal.{Refusal}
 use Rattle.types.specs.declared.Refusal.TheVariants.{SuperLength, SuperMagic, SuperChecksum, SuperFeatures, SuperOwner, SuperPerm, SuperTail}
-use Rattle.types.specs.declared.Verdict.{Verdict}
-use Rattle.types.specs.declared.Verdict.TheVariants.{Passed, Refused}
-use Rattle.types.specs.Verdicts.{refuse}
+use Rattle.types.specs.Answers.{Verdict}
+use Rattle.types.specs.Verdicts.{refuse, giving}
 use Rattle.wire.specs.Le.{le, little}
 use Rattle.crc32.specs.Crc.{superblock_crc}
 use Rattle.superblock.specs.declared.SuperBlock.{SuperBlock}
-use Rattle.superblock.specs.declared.SuperRead.{SuperRead}
 
 -- THE LAYOUT
 
@@ -149,7 +147,7 @@ fields_check b =
     refuse (wrong_magic b) SuperMagic
     (refuse (wrong_checksum b) SuperChecksum
     (values_check (features_at b) (uid_at b) (gid_at b) (perm_at b)
-    (refuse (nonzero_tail b) SuperTail Passed)))
+    (refuse (nonzero_tail b) SuperTail (Ok tt))))
 
 -- and "super block length" before them
 unfoldable pub super_check : List ℕ → Verdict
@@ -175,17 +173,19 @@ fields_of b =
       uuid = uuid_at b;
     }
 
--- the fields that stand beside a refusal
+-- what it gives where the checks are passed
+unfoldable pub super_read : List ℕ → Result SuperBlock Refusal
+super_read b = giving (super_check b) (fields_of b)
+
+-- what was found of it alone
+abbrev pub found_in : Result SuperBlock Refusal → Verdict
+found_in (Ok f) = Ok tt
+found_in (Err x) = Err x
+
+-- its fields: of a refused one none are used, and they are all zero
 abbrev pub no_fields : SuperBlock
 no_fields = record { aggregate = false; owner = 0; group = 0; mode = 0; uuid = replicate uuid_length 0 }
 
-abbrev pub refused_for : Refusal → SuperRead
-refused_for x = record { check = Refused x; fields = no_fields }
-
-abbrev pub read_as : Verdict → List ℕ → SuperRead
-read_as Passed b = record { check = Passed; fields = fields_of b }
-read_as (Refused x) b = refused_for x
-
--- the verdict, and the fields where it is passed
-unfoldable pub super_read : List ℕ → SuperRead
-super_read b = read_as (super_check b) b
+abbrev pub fields_in : Result SuperBlock Refusal → SuperBlock
+fields_in (Ok f) = f
+fields_in (Err x) = no_fields

@@ -2,10 +2,10 @@
 #![tactic(auto)]
 
 ghost use Rattle.std.specs.Prelude.{◌≡◌, ◌<◌, ◌≤◌, length, drop};
-ghost use Rattle.superblock.specs.SuperBlock.{uuid_at, tail_place, bit, has_perm, wrong_magic, wrong_checksum, unknown_features, no_owner, wrong_perm, values_check, nonzero, id_of, mode_of, fields_of, fields_check, refused_for, read_as, super_read};
+ghost use Rattle.superblock.specs.SuperBlock.{uuid_at, tail_place, bit, has_perm, wrong_magic, wrong_checksum, unknown_features, no_owner, wrong_perm, values_check, nonzero, id_of, mode_of, fields_of, fields_check, super_read, found_in, fields_in};
 
+use types::Refusal;
 use types::answers::refuse;
-use types::{Refusal, Verdict};
 
 // The bytes of a super block, and where its fields stand.
 pub const SUPER_BYTES: usize = 4096;
@@ -64,14 +64,17 @@ pub struct SuperBlock {
     pub uuid: [u8; UUID_BYTES],
 }
 
-// The verdict stands beside the fields, since an enum holds no array. A refusal has the fields all zero.
-#[derive(Clone, Copy)]
-pub struct SuperRead {
-    pub check: Verdict,
-    pub fields: SuperBlock,
-}
+// The fields of a refused super block.
+const NO_FIELDS: SuperBlock = SuperBlock {
+    aggregate: false,
+    owner: 0,
+    group: 0,
+    mode: 0,
+    uuid: [0; UUID_BYTES],
+};
 
 // Bit k of the features is set.
+// The features stay a number of bits: a shift says which, and nothing else is done with them.
 fn has(features: u64, k: u64) -> bool
     requires { k < 64 }
     ensures { result ≡ bit features k }
@@ -113,30 +116,24 @@ fn wrong_perm(features: u64, perm: u32) -> bool
     has(features, HAS_PERM) & (perm > HIGHEST_MODE)
 }
 
-// The checks of the values that a formatter is given too, before what the rest finds. The last comes first: each is handed what those after
-// it find.
-pub fn check_values(features: u64, uid: u32, gid: u32, perm: u32, rest: Verdict) -> Verdict
-    ensures { result ≡ values_check features uid gid perm rest }
+// The checks of the values that a formatter is given too.
+#[tactic(auto, unfolding(types::specs::Verdicts::refuse))]
+pub fn check_values(features: u64, uid: u32, gid: u32, perm: u32) -> Result<(), Refusal>
+    ensures { result ≡ values_check features uid gid perm (Ok tt) }
 {
-    let rest = refuse(wrong_perm(features, perm), Refusal::SuperPerm, rest);
-    let rest = refuse(no_owner(features, uid, gid), Refusal::SuperOwner, rest);
-    refuse(unknown_features(features), Refusal::SuperFeatures, rest)
+    refuse(unknown_features(features), Refusal::SuperFeatures)?;
+    refuse(no_owner(features, uid, gid), Refusal::SuperOwner)?;
+    refuse(wrong_perm(features, perm), Refusal::SuperPerm)
 }
 
 // A byte from `from` on isn't zero.
 fn nonzero_from(b: &[u8], from: usize) -> bool
     ensures { result ≡ nonzero (drop from b.now) }
 {
-    let mut i = from;
-    while i < b.len() {
-        if b[i] != 0 {
-            return true;
-        }
-        i += 1;
-    }
-    false
+    b.iter().skip(from).any(|&x| x != 0)
 }
 
+// The flag stays beside the value here and in `mode_of`: one `if` is as plain as an option that is made to be taken apart.
 fn id_of(used: bool, id: u32) -> u32
     ensures { result ≡ id_of used id }
 {
@@ -154,84 +151,62 @@ pub fn uuid_of(b: &[u8]) -> [u8; UUID_BYTES]
     ensures { result ≡ uuid_at b.now }
 {
     let mut uuid = [0u8; UUID_BYTES];
-    wire::put_bytes(&mut uuid[..], 0, &b[UUID_AT..FEATURES_AT]);
+    uuid.copy_from_slice(&b[UUID_AT..FEATURES_AT]);
     uuid
 }
 
+#[tactic(auto, unfolding(crate::specs::SuperBlock::fields_of))]
 fn fields_of(b: &[u8]) -> SuperBlock
     requires { tail_place ≤ length b.now }
     ensures { result ≡ fields_of b.now }
 {
     let features = wire::u64_at(b, FEATURES_AT);
-    let aggregate = has(features, AGGREGATE);
-    let owner = id_of(has(features, HAS_UID), wire::u32_at(b, UID_AT));
-    let group = id_of(has(features, HAS_GID), wire::u32_at(b, GID_AT));
-    let mode = mode_of(has(features, HAS_PERM), wire::u32_at(b, PERM_AT));
-    let uuid = uuid_of(b);
     SuperBlock {
-        aggregate,
-        owner,
-        group,
-        mode,
-        uuid,
+        aggregate: has(features, AGGREGATE),
+        owner: id_of(has(features, HAS_UID), wire::u32_at(b, UID_AT)),
+        group: id_of(has(features, HAS_GID), wire::u32_at(b, GID_AT)),
+        mode: mode_of(has(features, HAS_PERM), wire::u32_at(b, PERM_AT)),
+        uuid: uuid_of(b),
     }
 }
 
-// A refusal, with no fields.
-fn refused(x: Refusal) -> SuperRead
-    ensures { result ≡ refused_for x }
-{
-    let fields = SuperBlock {
-        aggregate: false,
-        owner: 0,
-        group: 0,
-        mode: 0,
-        uuid: [0; UUID_BYTES],
-    };
-    SuperRead {
-        check: Verdict::Refused(x),
-        fields,
-    }
-}
-
-// The checks of the fields, the last first.
-fn check_fields(b: &[u8]) -> Verdict
+// The checks of the fields.
+#[tactic(auto, unfolding(types::specs::Verdicts::refuse), using(crate::proofs::Values::values_passed, crate::proofs::Values::values_refused))]
+fn check_fields(b: &[u8]) -> Result<(), Refusal>
     requires { tail_place ≤ length b.now }
     ensures { result ≡ fields_check b.now }
 {
-    let rest = Verdict::Passed;
-    let rest = refuse(nonzero_from(b, TAIL_AT), Refusal::SuperTail, rest);
-    let rest = check_values(
+    refuse(wrong_magic(b), Refusal::SuperMagic)?;
+    refuse(wrong_checksum(b), Refusal::SuperChecksum)?;
+    check_values(
         wire::u64_at(b, FEATURES_AT),
         wire::u32_at(b, UID_AT),
         wire::u32_at(b, GID_AT),
         wire::u32_at(b, PERM_AT),
-        rest,
-    );
-    let rest = refuse(wrong_checksum(b), Refusal::SuperChecksum, rest);
-    refuse(wrong_magic(b), Refusal::SuperMagic, rest)
+    )?;
+    refuse(nonzero_from(b, TAIL_AT), Refusal::SuperTail)
 }
 
-// The verdict with the fields, where it is passed.
-fn read_as(check: Verdict, b: &[u8]) -> SuperRead
-    requires { tail_place ≤ length b.now }
-    ensures { result ≡ read_as check b.now }
-{
-    match check {
-        Verdict::Passed => SuperRead {
-            check: Verdict::Passed,
-            fields: fields_of(b),
-        },
-        Verdict::Refused(x) => refused(x),
-    }
-}
-
-// The super block in `b`, checked in the order of the refusals' numbers, with 33 between 25 and 26.
-pub fn read_superblock(b: &[u8]) -> SuperRead
+// What the super block in `b` gives, checked in the order of the refusals' numbers, with 33 between 25 and 26.
+#[tactic(auto, unfolding(types::specs::Verdicts::refuse, crate::specs::SuperBlock::super_check, crate::specs::SuperBlock::super_read))]
+pub fn read_superblock(b: &[u8]) -> Result<SuperBlock, Refusal>
     ensures { result ≡ super_read b.now }
 {
-    if b.len() != SUPER_BYTES {
-        return refused(Refusal::SuperLength);
-    }
-    read_as(check_fields(b), b)
+    refuse(b.len() != SUPER_BYTES, Refusal::SuperLength)?;
+    check_fields(b)?;
+    Ok(fields_of(b))
+}
+
+// What was found of a super block, without what it gives.
+pub fn found_in(read: Result<SuperBlock, Refusal>) -> Result<(), Refusal>
+    ensures { result ≡ found_in read }
+{
+    read.and(Ok(()))
+}
+
+// Its fields. Of a refused one none are used, and all are zero.
+pub fn fields_in(read: Result<SuperBlock, Refusal>) -> SuperBlock
+    ensures { result ≡ fields_in read }
+{
+    read.unwrap_or(NO_FIELDS)
 }

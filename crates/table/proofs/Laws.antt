@@ -1,5 +1,6 @@
 -- Laws of a table: what a stored row leaves at its own place, at the others, and of the length.
 -- Assumes nothing.
+use Rattle.std.specs.Prelude.{Ok, Some}
 use Prim.Native.Nat.{ℕ, zero, suc, ◌+◌, ◌*◌, ◌/◌, ◌≤◌, ◌<◌}
 use native.Mathlib.Omega.{arith}
 use native.Mathlib.Nat.{add-zero, add-suc, suc-add}
@@ -20,9 +21,6 @@ use Rattle.types.specs.declared.CommandKind.TheVariants as command
 use Rattle.types.specs.declared.Outstanding.{Outstanding}
 use Rattle.types.specs.declared.Outstanding.TheVariants.{Idle, Busy, Unknown}
 use Rattle.types.specs.Codes.{condition_code, access_code}
-use Rattle.table.specs.declared.ConditionRead.TheVariants as cr
-use Rattle.table.specs.declared.AccessRead.TheVariants as ar
-use Rattle.table.specs.declared.Slot.TheVariants.{Good}
 use Rattle.table.specs.Rows.{row_width, rows_lent, held_code, held_address, held_length, row_words, condition_read, access_read, held_read, word_at, row_at, set_row}
 
 -- WORDS STORED IN A ROW, of any number
@@ -49,12 +47,12 @@ sets_inside (v ∷ vs) l i (suc k) h f =
 
 -- A ROW
 
-pub condition_back : (k : Condition) → condition_read (condition_code k) ≡ cr.Is k
+pub condition_back : (k : Condition) → condition_read (condition_code k) ≡ Some k
 condition_back condition.Healthy = refl
 condition_back condition.ReadOnly = refl
 condition_back condition.Offline = refl
 
-pub access_back : (a : Access) → access_read (access_code a) ≡ ar.Is a
+pub access_back : (a : Access) → access_read (access_code a) ≡ Some a
 access_back access.Nothing = refl
 access_back access.Read = refl
 access_back access.Write = refl
@@ -111,7 +109,7 @@ pub row_at_other : (t : List ℕ) (i j : ℕ) (r : Row) → i ≢ j → row_at (
 row_at_other t i j r d = slot_of-words (set_row t i r) t j j (λ k h. word_outside t i (j * row_width + k) r (λ q. d (omega arith)))
 
 -- a row put and read back is the row
-pub row_at-same : (t : List ℕ) (i : ℕ) (r : Row) → i < rows_lent (length t) → row_at (set_row t i r) i ≡ Good r
+pub row_at-same : (t : List ℕ) (i : ℕ) (r : Row) → i < rows_lent (length t) → row_at (set_row t i r) i ≡ Ok r
 unfolding row_at set_row
 row_at-same t i r h =
     rw (word 0 (lit< tt), word 1 (lit< tt), word 2 (lit< tt), word 3 (lit< tt), word 4 (lit< tt), word 5 (lit< tt), word 6 (lit< tt), word 7 (lit< tt), word 8 (lit< tt), condition_back, access_back, held_back)

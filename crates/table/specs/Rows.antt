@@ -1,6 +1,6 @@
 -- A row in the words of a lent table: "start, capacity in bytes, size, condition, access", and since 02 the command that its file has
 -- outstanding, and how many opens for writing it has. Row i is the words from i * row_width on.
-use Rattle.std.specs.Prelude.{ℕ, ◌+◌, ◌-◌, ◌*◌, ◌/◌, List, [], ◌∷◌, cond, get_or, eqb, leb}
+use Rattle.std.specs.Prelude.{ℕ, ◌+◌, ◌-◌, ◌*◌, ◌/◌, List, [], ◌∷◌, cond, get_or, eqb, leb, Option, Result, Ok, Err, Some, None}
 use Rattle.std.proofs.lemmas.List.Edits.{sets}
 use Rattle.types.specs.declared.Row.{Row}
 use Rattle.types.specs.declared.Command.{Command}
@@ -8,8 +8,7 @@ use Rattle.types.specs.declared.Outstanding.{Outstanding}
 use Rattle.types.specs.declared.Outstanding.TheVariants.{Idle, Busy, Unknown}
 use Rattle.types.specs.declared.FileKind.{FileKind}
 use Rattle.types.specs.declared.FileKind.TheVariants.{Conventional, Sequential}
-use Rattle.types.specs.declared.Store.{Store}
-use Rattle.types.specs.declared.Store.TheVariants as store
+use Rattle.types.specs.Answers.{Store}
 use Rattle.types.specs.declared.Condition.{Condition}
 use Rattle.types.specs.declared.Condition.TheVariants as condition
 use Rattle.types.specs.declared.Access.{Access}
@@ -17,12 +16,6 @@ use Rattle.types.specs.declared.Access.TheVariants as access
 use Rattle.types.specs.declared.Refusal.TheVariants as refusal
 use Rattle.types.specs.Codes.{condition_code, access_code, commands, command_code, command_from}
 use Rattle.types.specs.Numbers.{refusal_number}
-use Rattle.table.specs.declared.Slot.{Slot}
-use Rattle.table.specs.declared.Slot.TheVariants.{Good, Impossible}
-use Rattle.table.specs.declared.ConditionRead.{ConditionRead}
-use Rattle.table.specs.declared.ConditionRead.TheVariants as cr
-use Rattle.table.specs.declared.AccessRead.{AccessRead}
-use Rattle.table.specs.declared.AccessRead.TheVariants as ar
 
 -- the words of a row
 abbrev pub row_width : ℕ
@@ -58,16 +51,16 @@ row_words r =
     ∷ r.opens ∷ []
 
 -- the condition of this code, or none
-abbrev pub condition_read : ℕ → ConditionRead
+abbrev pub condition_read : ℕ → Option Condition
 condition_read n =
-    cond (eqb n 0) (cr.Is condition.Healthy)
-    (cond (eqb n 1) (cr.Is condition.ReadOnly) (cond (eqb n 2) (cr.Is condition.Offline) cr.Bad))
+    cond (eqb n 0) (Some condition.Healthy)
+    (cond (eqb n 1) (Some condition.ReadOnly) (cond (eqb n 2) (Some condition.Offline) None))
 
 -- the access of this code, or none
-abbrev pub access_read : ℕ → AccessRead
+abbrev pub access_read : ℕ → Option Access
 access_read n =
-    cond (eqb n 0) (ar.Is access.Nothing)
-    (cond (eqb n 1) (ar.Is access.Read) (cond (eqb n 2) (ar.Is access.Write) ar.Bad))
+    cond (eqb n 0) (Some access.Nothing)
+    (cond (eqb n 1) (Some access.Read) (cond (eqb n 2) (Some access.Write) None))
 
 -- what is outstanding, by the three words of it; where nothing is held the last two aren't looked at
 abbrev pub held_read : ℕ → ℕ → ℕ → Outstanding
@@ -75,19 +68,23 @@ held_read code address length =
     cond (eqb code 0) Idle
     (cond (leb code commands) (Busy (record { kind = command_from (code - 1); address = address; length = length })) Unknown)
 
+-- what a row's words say: a row, or that the code of its condition or access is none of the codes, and what is outstanding there
+abbrev pub Slot : Type 0
+Slot = Result Row Outstanding
+
 -- codes of condition or access that no row has are an impossible row; what is outstanding on it is told all the same, as 8 comes before 10
-abbrev pub slot_with : ℕ → ℕ → ℕ → ConditionRead → AccessRead → Outstanding → ℕ → Slot
-slot_with s c z (cr.Is k) (ar.Is a) o n =
-    Good (record { start = s; capacity = c; size = z; condition = k; access = a; outstanding = o; opens = n })
-slot_with s c z (cr.Is k) ar.Bad o n = Impossible o
-slot_with s c z cr.Bad a o n = Impossible o
+abbrev pub slot_with : ℕ → ℕ → ℕ → Option Condition → Option Access → Outstanding → ℕ → Slot
+slot_with s c z (Some k) (Some a) o n =
+    Ok (record { start = s; capacity = c; size = z; condition = k; access = a; outstanding = o; opens = n })
+slot_with s c z (Some k) None o n = Err o
+slot_with s c z None a o n = Err o
 
 abbrev pub slot_of : ℕ → ℕ → ℕ → ℕ → ℕ → Outstanding → ℕ → Slot
 slot_of s c z k a o n = slot_with s c z (condition_read k) (access_read a) o n
 
 abbrev pub outstanding_in : Slot → Outstanding
-outstanding_in (Good r) = r.outstanding
-outstanding_in (Impossible o) = o
+outstanding_in (Ok r) = r.outstanding
+outstanding_in (Err o) = o
 
 -- word k of row i
 abbrev pub word_at : List ℕ → ℕ → ℕ → ℕ
@@ -105,20 +102,20 @@ set_row t i r = sets t (i * row_width) (row_words r)
 
 -- the table of a kind once this was stored: a row goes into the table of its file's kind
 abbrev pub stored : FileKind → Store → List ℕ → List ℕ
-stored k store.Nothing t = t
-stored Conventional (store.Put Conventional i r) t = set_row t i r
-stored Conventional (store.Put Sequential i r) t = t
-stored Sequential (store.Put Conventional i r) t = t
-stored Sequential (store.Put Sequential i r) t = set_row t i r
+stored k None t = t
+stored Conventional (Some (Conventional, i, r)) t = set_row t i r
+stored Conventional (Some (Sequential, i, r)) t = t
+stored Sequential (Some (Conventional, i, r)) t = t
+stored Sequential (Some (Sequential, i, r)) t = set_row t i r
 
 -- a slot in numbers: 10, "mount value or tables impossible", or 0 with the row's values
 abbrev pub slot_number : Slot → ℕ
-slot_number (Good r) = 0
-slot_number (Impossible o) = refusal_number refusal.Impossible
+slot_number (Ok r) = 0
+slot_number (Err o) = refusal_number refusal.Impossible
 
 abbrev pub slot_values : Slot → List ℕ
-slot_values (Good r) = row_words r
-slot_values (Impossible o) = []
+slot_values (Ok r) = row_words r
+slot_values (Err o) = []
 
 -- "Healthy: .. access write"; a mount leaves nothing outstanding, and no file open
 abbrev pub healthy_row : ℕ → ℕ → ℕ → Row

@@ -8,7 +8,7 @@ ghost use Rattle.types.specs.declared.FileKind.TheVariants as files;
 ghost use Rattle.table.specs.Facts.{StoreFits};
 ghost use Rattle.table.specs.Rows.{rows_lent, held_code, held_address, held_length, condition_read, access_read, held_read, slot_with, slot_of, outstanding_in, row_at, set_row, stored, healthy_row, offline_row, with_size, recovered_to, with_outstanding, with_opens, holding, cleared};
 
-use types::{Access, Command, Condition, FileKind, Outstanding, Row, Store};
+use types::{Access, Command, Condition, FileKind, Outstanding, Row};
 
 // The words of a row, and where they stand behind the first, its start.
 pub const ROW_WORDS: usize = 9;
@@ -29,27 +29,6 @@ const HELD_LENGTH: usize = 7;
 
 const OPENS: usize = 8;
 
-// What a row's words say: a row, or that the code of its condition or access is none of the codes, and what is outstanding there.
-#[derive(Clone, Copy)]
-pub enum Slot {
-    Good(Row),
-    Impossible(Outstanding),
-}
-
-// What the word of a condition says.
-#[derive(Clone, Copy)]
-enum ConditionRead {
-    Is(Condition),
-    Bad,
-}
-
-// What the word of an access says.
-#[derive(Clone, Copy)]
-enum AccessRead {
-    Is(Access),
-    Bad,
-}
-
 // How many rows so many words hold. Words left over are never read or written.
 pub fn rows_lent(words: usize) -> usize
     ensures { result ≡ rows_lent words }
@@ -57,25 +36,25 @@ pub fn rows_lent(words: usize) -> usize
     words / ROW_WORDS
 }
 
-fn condition_read(code: u64) -> ConditionRead
+fn condition_read(code: u64) -> Option<Condition>
     ensures { result ≡ condition_read code }
 {
     match code {
-        0 => ConditionRead::Is(Condition::Healthy),
-        1 => ConditionRead::Is(Condition::ReadOnly),
-        2 => ConditionRead::Is(Condition::Offline),
-        _ => ConditionRead::Bad,
+        0 => Some(Condition::Healthy),
+        1 => Some(Condition::ReadOnly),
+        2 => Some(Condition::Offline),
+        _ => None,
     }
 }
 
-fn access_read(code: u64) -> AccessRead
+fn access_read(code: u64) -> Option<Access>
     ensures { result ≡ access_read code }
 {
     match code {
-        0 => AccessRead::Is(Access::Nothing),
-        1 => AccessRead::Is(Access::Read),
-        2 => AccessRead::Is(Access::Write),
-        _ => AccessRead::Bad,
+        0 => Some(Access::Nothing),
+        1 => Some(Access::Read),
+        2 => Some(Access::Write),
+        _ => None,
     }
 }
 
@@ -87,9 +66,8 @@ fn held_read(code: u64, address: u64, length: u64) -> Outstanding
         return Outstanding::Idle;
     }
     if code <= types::codes::COMMANDS {
-        let kind = types::codes::command_from(code - 1);
         Outstanding::Busy(Command {
-            kind,
+            kind: types::codes::command_from(code - 1),
             address,
             length,
         })
@@ -102,25 +80,25 @@ fn slot_with(
     start: u64,
     capacity: u64,
     size: u64,
-    condition: ConditionRead,
-    access: AccessRead,
+    condition: Option<Condition>,
+    access: Option<Access>,
     outstanding: Outstanding,
     opens: u64,
-) -> Slot
+) -> Result<Row, Outstanding>
     ensures { result ≡ slot_with start capacity size condition access outstanding opens }
 {
-    let ConditionRead::Is(c) = condition else {
-        return Slot::Impossible(outstanding);
+    let Some(condition) = condition else {
+        return Err(outstanding);
     };
-    let AccessRead::Is(a) = access else {
-        return Slot::Impossible(outstanding);
+    let Some(access) = access else {
+        return Err(outstanding);
     };
-    Slot::Good(Row {
+    Ok(Row {
         start,
         capacity,
         size,
-        condition: c,
-        access: a,
+        condition,
+        access,
         outstanding,
         opens,
     })
@@ -134,7 +112,7 @@ fn slot_of(
     access: u64,
     outstanding: Outstanding,
     opens: u64,
-) -> Slot
+) -> Result<Row, Outstanding>
     ensures { result ≡ slot_of start capacity size condition access outstanding opens }
 {
     slot_with(
@@ -149,17 +127,18 @@ fn slot_of(
 }
 
 // What is outstanding, of a row that is one or isn't.
-pub fn outstanding_in(slot: Slot) -> Outstanding
+pub fn outstanding_in(slot: Result<Row, Outstanding>) -> Outstanding
     ensures { result ≡ outstanding_in slot }
 {
     match slot {
-        Slot::Good(row) => row.outstanding,
-        Slot::Impossible(outstanding) => outstanding,
+        Ok(row) => row.outstanding,
+        Err(outstanding) => outstanding,
     }
 }
 
 // The row of number `i`.
-pub fn row_at(t: &[u64], i: usize) -> Slot
+#[tactic(auto, unfolding(crate::specs::Rows::row_at))]
+pub fn row_at(t: &[u64], i: usize) -> Result<Row, Outstanding>
     requires { i < rows_lent (length t.now) }
     ensures { result ≡ row_at t.now i }
 {
@@ -182,10 +161,7 @@ fn held_code(o: Outstanding) -> u64
 {
     match o {
         Outstanding::Idle => 0,
-        Outstanding::Busy(c) => {
-            let kind = c.kind;
-            1 + types::codes::command_code(kind)
-        }
+        Outstanding::Busy(c) => 1 + u64::from(c.kind),
         Outstanding::Unknown => 1 + types::codes::COMMANDS,
     }
 }
@@ -211,46 +187,40 @@ fn held_length(o: Outstanding) -> u64
 }
 
 // Stores a row at number `i`.
+// A line to each field stays: they have different types, and named places.
+#[tactic(auto, unfolding(crate::specs::Rows::set_row))]
 pub fn put_row(t: &mut [u64], i: usize, row: Row)
     requires { i < rows_lent (length t.old) }
     ensures { t.new ≡ set_row t.old i row }
 {
     let b = i * ROW_WORDS;
-    let c = row.condition;
-    let a = row.access;
-    let o = row.outstanding;
-    let condition = types::codes::condition_code(c);
-    let access = types::codes::access_code(a);
-    let held = held_code(o);
-    let address = held_address(o);
-    let length = held_length(o);
     t[b] = row.start;
     t[b + CAPACITY] = row.capacity;
     t[b + SIZE] = row.size;
-    t[b + CONDITION] = condition;
-    t[b + ACCESS] = access;
-    t[b + HELD] = held;
-    t[b + HELD_ADDRESS] = address;
-    t[b + HELD_LENGTH] = length;
+    t[b + CONDITION] = u64::from(row.condition);
+    t[b + ACCESS] = u64::from(row.access);
+    t[b + HELD] = held_code(row.outstanding);
+    t[b + HELD_ADDRESS] = held_address(row.outstanding);
+    t[b + HELD_LENGTH] = held_length(row.outstanding);
     t[b + OPENS] = row.opens;
 }
 
 // Stores what a call or a completion says: nothing, or a row in the table of its kind.
-pub fn put_store(cnv: &mut [u64], seq: &mut [u64], store: Store)
+pub fn put_store(cnv: &mut [u64], seq: &mut [u64], store: Option<(FileKind, u32, Row)>)
     requires { StoreFits cnv.old seq.old store }
     ensures cnv_after { cnv.new ≡ stored files.Conventional store cnv.old }
     ensures seq_after { seq.new ≡ stored files.Sequential store seq.old }
 {
-    match store {
-        Store::Nothing => {}
-        Store::Put(kind, number, row) => match kind {
+    if let Some((kind, number, row)) = store {
+        match kind {
             FileKind::Conventional => put_row(cnv, number as usize, row),
             FileKind::Sequential => put_row(seq, number as usize, row),
-        },
+        }
     }
 }
 
 // A file that is found healthy at mount.
+// It and `offline_row` stay two: their rows have other values, and no argument tells them apart.
 pub fn healthy_row(start: u64, capacity: u64, size: u64) -> Row
     ensures { result ≡ healthy_row start capacity size }
 {
@@ -284,33 +254,18 @@ pub fn offline_row(start: u64, capacity: u64) -> Row
 pub fn with_size(row: Row, size: u64) -> Row
     ensures { result ≡ with_size row size }
 {
-    let condition = row.condition;
-    let access = row.access;
-    let outstanding = row.outstanding;
-    Row {
-        start: row.start,
-        capacity: row.capacity,
-        size,
-        condition,
-        access,
-        outstanding,
-        opens: row.opens,
-    }
+    Row { size, ..row }
 }
 
 // The row with what a recovery sets.
 pub fn recovered_to(row: Row, size: u64, condition: Condition, access: Access) -> Row
     ensures { result ≡ recovered_to row size condition access }
 {
-    let outstanding = row.outstanding;
     Row {
-        start: row.start,
-        capacity: row.capacity,
         size,
         condition,
         access,
-        outstanding,
-        opens: row.opens,
+        ..row
     }
 }
 
@@ -318,35 +273,14 @@ pub fn recovered_to(row: Row, size: u64, condition: Condition, access: Access) -
 fn with_outstanding(row: Row, outstanding: Outstanding) -> Row
     ensures { result ≡ with_outstanding row outstanding }
 {
-    let condition = row.condition;
-    let access = row.access;
-    Row {
-        start: row.start,
-        capacity: row.capacity,
-        size: row.size,
-        condition,
-        access,
-        outstanding,
-        opens: row.opens,
-    }
+    Row { outstanding, ..row }
 }
 
 // The row with another number of opens.
 pub fn with_opens(row: Row, opens: u64) -> Row
     ensures { result ≡ with_opens row opens }
 {
-    let condition = row.condition;
-    let access = row.access;
-    let outstanding = row.outstanding;
-    Row {
-        start: row.start,
-        capacity: row.capacity,
-        size: row.size,
-        condition,
-        access,
-        outstanding,
-        opens,
-    }
+    Row { opens, ..row }
 }
 
 // The row with a command outstanding.

@@ -1,5 +1,6 @@
 -- A block of records is a beginning of the tape's text, whatever follows the bytes that are there; and what is kept is the rest of it.
 -- Assumes nothing.
+use Rattle.std.specs.Prelude.{None}
 use mathlib.Core.Path.{◌≡◌, refl, sym, ap, ◌∙◌}
 use mathlib.Core.List.{List, [], ◌++◌, append_assoc, append-nil}
 use mathlib.Core.Bool.{Bool, true, false, cond, false≢true}
@@ -10,7 +11,6 @@ use borrow.Author.Tests.{lt-ltb, leb-true}
 use Rattle.types.proofs.Tests.{both, and_left, and_right, cases}
 use Rattle.tape_records.specs.declared.Mark.{Mark}
 use Rattle.tape_records.specs.declared.Mark.TheVariants as mark
-use Rattle.tape_records.specs.declared.Record.TheVariants.{Broken}
 use Rattle.tape_records.specs.Records.{holds, record_bytes, record_of, mark_at, marked_at, record_at}
 use Rattle.tape_lines.specs.Facts.{line_room}
 use Rattle.engine.specs.Engine.{State}
@@ -79,7 +79,7 @@ Inside b r = r.more ≡ true → r.next ≤ length b
 turn_inside_by : (b : List ℕ) (at : ℕ) (s : State) (m : Mark) → Inside b (turn_of b at s (marked_at m b at)).rest
 turn_inside_by b at s m = by m (holds (record_bytes m) b at) refl
   where
-    by : (m : Mark) (t : Bool) → holds (record_bytes m) b at ≡ t → Inside b (turn_of b at s (cond t (record_of m b at) Broken)).rest
+    by : (m : Mark) (t : Bool) → holds (record_bytes m) b at ≡ t → Inside b (turn_of b at s (cond t (record_of m b at) None)).rest
     by m false e h = absurd (false≢true h)
     by mark.Read true e h = leb-true _ _ e
     by mark.Write true e h = leb-true _ _ e

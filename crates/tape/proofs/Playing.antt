@@ -19,7 +19,8 @@ use Rattle.tape_turns.specs.Facts.{rest_of, Takes}
 use Rattle.tape.specs.Tape.{goes_further, text_from, text_with, played_to, played_into}
 use Rattle.tape.specs.Blocks.{block_of}
 use Rattle.tape.specs.Facts.{Plays, Copies}
-use Rattle.tape.proofs.Stores.{first_part_lem, sets_out}
+use Rattle.tape_lines.proofs.Stores.{sets_out}
+use Rattle.tape.proofs.Stores.{first_part_lem}
 use Rattle.tape.proofs.Texts.{text_of, no_text, inside, left, left_less}
 use Rattle.tape.proofs.Blocks.{block_text, block_onward}
 

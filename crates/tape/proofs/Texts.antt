@@ -1,5 +1,6 @@
 -- The text of the rest of a tape: record by record, and from a part of the tape.
 -- Assumes nothing.
+use Rattle.std.specs.Prelude.{Option, Some, None}
 use mathlib.Core.Path.{◌≡◌, refl, sym, ap, subst, ◌∙◌}
 use mathlib.Core.List.{List, [], ◌++◌}
 use mathlib.Core.Bool.{Bool, true, false, cond, false≢true, ◌&&◌}
@@ -12,7 +13,7 @@ use lib.Seq.{drop-append-le}
 use borrow.Author.Tests.{ltb-true, ltb-false, lt-ltb, le-ltb}
 use Rattle.types.proofs.Tests.{and_left, and_right, cases}
 use Rattle.tape_records.specs.declared.Record.{Record}
-use Rattle.tape_records.specs.declared.Record.TheVariants.{OnFile, End, Broken}
+use Rattle.tape_records.specs.declared.Record.TheVariants.{OnFile, End}
 use Rattle.tape_records.specs.Records.{record_at}
 use Rattle.engine.specs.Engine.{State}
 use Rattle.tape_turns.specs.Turns.{Rest, turn_of, turn_at}
@@ -27,11 +28,11 @@ abbrev pub text_of : List ℕ → Rest → List ℕ
 text_of b r = text_from (length b) b r
 
 -- a record after which the tape goes on isn't empty
-onward_by : (b : List ℕ) (at : ℕ) (s : State) (x : Record) → (turn_of b at s x).rest.more ≡ true → at < (turn_of b at s x).rest.next
-onward_by b at s (OnFile kind number x) e = omega arith
-onward_by b at s (End kind number true) e = omega arith
-onward_by b at s (End kind number false) e = omega arith
-onward_by b at s Broken e = absurd (false≢true e)
+onward_by : (b : List ℕ) (at : ℕ) (s : State) (x : Option Record) → (turn_of b at s x).rest.more ≡ true → at < (turn_of b at s x).rest.next
+onward_by b at s (Some (OnFile kind number x)) e = omega arith
+onward_by b at s (Some (End kind number true)) e = omega arith
+onward_by b at s (Some (End kind number false)) e = omega arith
+onward_by b at s None e = absurd (false≢true e)
 
 pub onward : (b : List ℕ) (at : ℕ) (s : State) → (turn_at b at s).rest.more ≡ true → at < (turn_at b at s).rest.next
 unfolding turn_at

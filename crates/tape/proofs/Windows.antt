@@ -1,5 +1,6 @@
 -- A record, read from a part of a tape: neither what stands before it nor what follows it matters.
 -- Assumes nothing.
+use Rattle.std.specs.Prelude.{Option, Some, None}
 use mathlib.Core.Path.{◌≡◌, refl, sym, ap, ◌∙◌}
 use mathlib.Core.List.{List, ◌++◌}
 use mathlib.Core.Bool.{Bool, true, false}
@@ -16,7 +17,7 @@ use Rattle.zones.specs.Zone.{zone_bytes}
 use Rattle.tape_records.specs.declared.Mark.{Mark}
 use Rattle.tape_records.specs.declared.Mark.TheVariants as mark
 use Rattle.tape_records.specs.declared.Record.{Record}
-use Rattle.tape_records.specs.declared.Record.TheVariants.{OnFile, End, Broken}
+use Rattle.tape_records.specs.declared.Record.TheVariants.{OnFile, End}
 use Rattle.tape_records.specs.Records.{holds, mark_bytes, named_bytes, failed_bytes, call_bytes, mark_at, kind_at, number_at, on_file_at, end_at, record_bytes, record_of, marked_at, record_at}
 use Rattle.engine.specs.Engine.{State}
 use Rattle.tape_turns.specs.Turns.{Turn, turn, turn_of, turn_at}
@@ -102,11 +103,11 @@ ahead k t = record { line = t.line; rest = record { more = t.rest.more; next = k
 nowhere : (t : Turn) → ahead 0 t ≡ t
 nowhere t = ap (λ (n : ℕ). turn t.line t.rest.more n t.rest.state) (zero-add t.rest.next)
 
-turn_alike_by : {b c : List ℕ} {at there : ℕ} (k : ℕ) → at ≡ k + there → Alike b at c there → (s : State) (x : Record) → turn_of b at s x ≡ ahead k (turn_of c there s x)
-turn_alike_by {at = at} {there} k e a s (OnFile kind n x) = let p : at + call_bytes ≡ k + (there + call_bytes) = omega arith in rw p
-turn_alike_by {at = at} {there} k e a s (End kind n true) = let p : at + named_bytes ≡ k + (there + named_bytes) = omega arith in rw p
-turn_alike_by {at = at} {there} k e a s (End kind n false) = let p : at + failed_bytes ≡ k + (there + failed_bytes) = omega arith in rw (p, a.zone)
-turn_alike_by k e a s Broken = rw e
+turn_alike_by : {b c : List ℕ} {at there : ℕ} (k : ℕ) → at ≡ k + there → Alike b at c there → (s : State) (x : Option Record) → turn_of b at s x ≡ ahead k (turn_of c there s x)
+turn_alike_by {at = at} {there} k e a s (Some (OnFile kind n x)) = let p : at + call_bytes ≡ k + (there + call_bytes) = omega arith in rw p
+turn_alike_by {at = at} {there} k e a s (Some (End kind n true)) = let p : at + named_bytes ≡ k + (there + named_bytes) = omega arith in rw p
+turn_alike_by {at = at} {there} k e a s (Some (End kind n false)) = let p : at + failed_bytes ≡ k + (there + failed_bytes) = omega arith in rw (p, a.zone)
+turn_alike_by k e a s None = rw e
 
 turn_alike : {b c : List ℕ} {at there : ℕ} (k : ℕ) → at ≡ k + there → Alike b at c there → (s : State) → turn_at b at s ≡ ahead k (turn_at c there s)
 unfolding turn_at

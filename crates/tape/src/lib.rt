@@ -22,6 +22,7 @@ pub const TABLE_WORDS: usize = ROW_WORDS * TAPE_FILES;
 const LONGEST_RECORD: usize = FAILED_BYTES;
 
 // What playing a tape into lent bytes answers: whether its text fits, and how many of the bytes are the text's.
+// Not a Result: `played_to` says in both cases how many bytes are the text's.
 #[derive(Clone, Copy)]
 pub struct Played {
     pub whole: bool,
@@ -32,29 +33,21 @@ pub struct Played {
 fn is_told(ended: bool, have: usize, next: usize) -> bool
     ensures { result ≡ is_told ended have next }
 {
-    if have < LONGEST_RECORD {
-        ended
-    } else {
-        ended | (next <= have - LONGEST_RECORD)
-    }
+    ended || (LONGEST_RECORD <= have && next <= have - LONGEST_RECORD)
 }
 
 // There is room for a line at `to`.
 fn has_room(to: usize, room: usize) -> bool
     ensures { result ≡ has_room to room }
 {
-    if room < LINE_ROOM {
-        false
-    } else {
-        to <= room - LINE_ROOM
-    }
+    LINE_ROOM <= room && to <= room - LINE_ROOM
 }
 
 // The next record can be played.
 fn is_ready(more: bool, next: usize, ended: bool, have: usize, to: usize, room: usize) -> bool
     ensures { result ≡ is_ready more next ended have to room }
 {
-    more & (next < have) & (is_told(ended, have, next) & has_room(to, room))
+    more && next < have && is_told(ended, have, next) && has_room(to, room)
 }
 
 // Plays the records that are ready: puts their lines at `t.to`, and hands back what the last of them left.
@@ -80,13 +73,7 @@ pub fn play_block(
 pub fn from_start(t: Turned) -> Turned
     ensures { result ≡ record { to = 0; more = t.more; next = t.next; mount = t.mount } }
 {
-    let mount = t.mount;
-    Turned {
-        to: 0,
-        more: t.more,
-        next: t.next,
-        mount,
-    }
+    Turned { to: 0, ..t }
 }
 
 // The lines at the start of `lines`, with as much of them at `to` as there is room for.
@@ -94,13 +81,9 @@ fn copy_lines(t: Turned, lines: &[u8], out: &mut [u8], to: usize) -> Turned
     requires { (t.to ≤ length lines.now) × (to + t.to < 2 ^ 64) }
     ensures { Copies t lines.now out.old out.new to result }
 {
-    let mount = t.mount;
-    let end = tape_lines::copy_line(out, to, lines, t.to);
     Turned {
-        to: end,
-        more: t.more,
-        next: t.next,
-        mount,
+        to: tape_lines::copy_line(out, to, lines, t.to),
+        ..t
     }
 }
 
@@ -130,10 +113,9 @@ fn play_rest(b: &[u8], t: Turned, cnv: &mut [u64], seq: &mut [u64], out: &mut [u
 fn played_to(end: usize, room: usize) -> Played
     ensures { result ≡ played_to end room }
 {
-    let whole = end <= room;
     Played {
-        whole,
-        length: if whole { end } else { room },
+        whole: end <= room,
+        length: end.min(room),
     }
 }
 
@@ -150,6 +132,7 @@ fn play_with(b: &[u8], cnv: &mut [u64], seq: &mut [u64], out: &mut [u8]) -> Play
 }
 
 // Plays a whole tape: puts its text at the start of `out`, as much of it as there is room for.
+#[tactic(auto, unfolding(crate::specs::Tape::tape_text))]
 pub fn play(b: &[u8], out: &mut [u8]) -> Played
     ensures value { result ≡ played_into (length out.old) (tape_text b.now) }
     ensures out_after { out.new ≡ sets out.old 0 (tape_text b.now) }

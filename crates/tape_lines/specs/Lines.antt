@@ -1,14 +1,14 @@
 -- The lines that records print: "mark, answer, then .."
-use Rattle.std.specs.Prelude.{ℕ, List, [], ◌∷◌, ◌++◌}
+use Rattle.std.specs.Prelude.{ℕ, List, [], ◌∷◌, ◌++◌, Ok, Err}
 use Prim.Native.Char.{code}
 use Rattle.types.specs.declared.Call.{Call}
 use Rattle.types.specs.declared.Call.TheVariants as call
 use Rattle.types.specs.declared.CommandKind.{CommandKind}
 use Rattle.types.specs.declared.CommandKind.TheVariants as command
 use Rattle.types.specs.declared.Command.{Command}
-use Rattle.types.specs.declared.Answer.{Answer}
-use Rattle.types.specs.declared.Answer.TheVariants.{Refused, Done, Issue}
-use Rattle.types.specs.declared.MountAnswer.{MountAnswer}
+use Rattle.types.specs.Answers.{Answer}
+use Rattle.types.specs.declared.Granted.TheVariants.{Done, Issue}
+use Rattle.types.specs.Answers.{MountAnswer}
 use Rattle.types.specs.Numbers.{answer_number, answer_values, mount_number, mount_values, refusal_number, refusal_values}
 use Rattle.text.specs.Text.{ascii, field, fields}
 use Rattle.tape_records.specs.declared.Letters.{Letters}
@@ -53,9 +53,9 @@ done_fields count = ascii " D" ++ field count
 
 -- "answer, then .."
 abbrev pub call_fields : Answer → List ℕ
-call_fields (Refused r) = fields (refusal_number r ∷ refusal_values r)
-call_fields (Done count) = field 0 ++ done_fields count
-call_fields (Issue c) = field 0 ++ command_fields c
+call_fields (Err r) = fields (refusal_number r ∷ refusal_values r)
+call_fields (Ok (Done count)) = field 0 ++ done_fields count
+call_fields (Ok (Issue c)) = field 0 ++ command_fields c
 
 -- the file of a completion, before the rest. 02: "the tape's OK and NO carry kind and number before the rest, printed too"
 abbrev pub file_fields : ℕ → ℕ → List ℕ

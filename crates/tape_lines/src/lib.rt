@@ -1,7 +1,7 @@
 // The lines that a tape's records print, put into lent bytes.
 #![tactic(auto)]
 
-ghost use Rattle.std.specs.Prelude.{◌≡◌, [], ◌∷◌, ◌+◌, ◌^◌, ◌≤◌, ◌<◌, length, take, set};
+ghost use Rattle.std.specs.Prelude.{◌≡◌, [], ◌∷◌, ◌+◌, ◌^◌, ◌≤◌, ◌<◌, length, take};
 ghost use Rattle.types.specs.Numbers.{listed, refusal_number, refusal_values};
 ghost use Rattle.text.specs.Text.{fields};
 ghost use Rattle.text.specs.Facts.{Put};
@@ -11,12 +11,13 @@ ghost use Rattle.tape_lines.specs.Facts.{two_fields, values_room, answer_room, l
 
 use tape_records::{Letters, Mark, letters_of};
 use text::{put_byte, put_field};
-use types::{Answer, Call, Command, CommandKind, MountAnswer, Refusal, Values};
+use types::{Call, Command, CommandKind, Granted, Refusal, Values};
 
 // No line is longer.
 pub const LINE_ROOM: usize = 136;
 
 // The number of a record that is unknown, misplaced or cut.
+// It stays a number: no refusal has it, it is the tape's own.
 const BROKEN: u64 = 40;
 
 // Two bytes: a mark, or a space and a letter.
@@ -57,9 +58,8 @@ fn put_refusal(out: &mut [u8], at: usize, x: Refusal) -> usize
     ensures upper_bound { result ≤ at + answer_room }
 {
     let code = types::answers::refusal_code(x);
-    let values = code.values;
     let next = put_field(out, at, code.number);
-    put_values(out, next, values)
+    put_values(out, next, code.values)
 }
 
 fn letter_of(k: CommandKind) -> u8
@@ -82,10 +82,9 @@ fn put_command(out: &mut [u8], at: usize, c: Command) -> usize
     ensures put { Put out.old out.new at result (command_fields c) }
     ensures upper_bound { result ≤ at + values_room }
 {
-    let k = c.kind;
     let letter = Letters {
         first: b' ',
-        second: letter_of(k),
+        second: letter_of(c.kind),
     };
     let after = put_letters(out, at, letter);
     put_two_fields(out, after, c.address, c.length)
@@ -106,20 +105,19 @@ fn put_done(out: &mut [u8], at: usize, count: u64) -> usize
 }
 
 // What a call's line says after its mark.
-fn put_call_answer(out: &mut [u8], at: usize, a: Answer) -> usize
+fn put_call_answer(out: &mut [u8], at: usize, a: Result<Granted, Refusal>) -> usize
     requires { at + answer_room ≤ length out.old }
     ensures put { Put out.old out.new at result (call_fields a) }
     ensures upper_bound { result ≤ at + answer_room }
 {
     match a {
-        Answer::Refused(x) => put_refusal(out, at, x),
-        Answer::Done(count) => {
+        Err(x) => put_refusal(out, at, x),
+        Ok(granted) => {
             let next = put_field(out, at, 0);
-            put_done(out, next, count)
-        }
-        Answer::Issue(c) => {
-            let next = put_field(out, at, 0);
-            put_command(out, next, c)
+            match granted {
+                Granted::Done(count) => put_done(out, next, count),
+                Granted::Issue(c) => put_command(out, next, c),
+            }
         }
     }
 }
@@ -139,7 +137,7 @@ fn call_mark(x: Call) -> Mark
 }
 
 // The line of a call.
-pub fn put_call_line(out: &mut [u8], at: usize, x: Call, a: Answer) -> usize
+pub fn put_call_line(out: &mut [u8], at: usize, x: Call, a: Result<Granted, Refusal>) -> usize
     requires { at + line_room ≤ length out.old }
     ensures put { Put out.old out.new at result (call_line x a) }
     ensures upper_bound { result ≤ at + line_room }
@@ -150,19 +148,22 @@ pub fn put_call_line(out: &mut [u8], at: usize, x: Call, a: Answer) -> usize
 }
 
 // What a completion's line says after its file.
-fn put_completion_answer(out: &mut [u8], at: usize, a: Answer) -> usize
+fn put_completion_answer(out: &mut [u8], at: usize, a: Result<Granted, Refusal>) -> usize
     requires { at + answer_room ≤ length out.old }
     ensures put { Put out.old out.new at result (completion_fields a) }
     ensures upper_bound { result ≤ at + answer_room }
 {
     match a {
-        Answer::Refused(x) => put_refusal(out, at, x),
-        Answer::Done(count) => put_two_fields(out, at, 0, count),
-        Answer::Issue(c) => {
-            let k = c.kind;
-            let first = put_field(out, at, 0);
-            let next = put_field(out, first, types::codes::command_code(k));
-            put_two_fields(out, next, c.address, c.length)
+        Err(x) => put_refusal(out, at, x),
+        Ok(granted) => {
+            let next = put_field(out, at, 0);
+            match granted {
+                Granted::Done(count) => put_field(out, next, count),
+                Granted::Issue(c) => {
+                    let rest = put_field(out, next, u64::from(c.kind));
+                    put_two_fields(out, rest, c.address, c.length)
+                }
+            }
         }
     }
 }
@@ -174,7 +175,7 @@ pub fn put_completion_line(
     m: Mark,
     kind: u8,
     number: u32,
-    a: Answer,
+    a: Result<Granted, Refusal>,
 ) -> usize
     requires { at + line_room ≤ length out.old }
     ensures put { Put out.old out.new at result (completion_line m kind number a) }
@@ -187,14 +188,14 @@ pub fn put_completion_line(
 }
 
 // What a mount's line says after its mark.
-fn put_mount_answer(out: &mut [u8], at: usize, a: MountAnswer) -> usize
+fn put_mount_answer(out: &mut [u8], at: usize, a: Result<(u32, u32), Refusal>) -> usize
     requires { at + answer_room ≤ length out.old }
     ensures put { Put out.old out.new at result (mount_fields a) }
     ensures upper_bound { result ≤ at + answer_room }
 {
     match a {
-        MountAnswer::Refused(x) => put_refusal(out, at, x),
-        MountAnswer::Mounted(conventional, sequential) => {
+        Err(x) => put_refusal(out, at, x),
+        Ok((conventional, sequential)) => {
             let next = put_field(out, at, 0);
             put_two_fields(out, next, conventional as u64, sequential as u64)
         }
@@ -202,7 +203,7 @@ fn put_mount_answer(out: &mut [u8], at: usize, a: MountAnswer) -> usize
 }
 
 // The line of a mount.
-pub fn put_mount_line(out: &mut [u8], at: usize, a: MountAnswer) -> usize
+pub fn put_mount_line(out: &mut [u8], at: usize, a: Result<(u32, u32), Refusal>) -> usize
     requires { at + line_room ≤ length out.old }
     ensures put { Put out.old out.new at result (mount_line a) }
     ensures upper_bound { result ≤ at + line_room }
@@ -227,23 +228,14 @@ pub fn put_broken_line(out: &mut [u8], at: usize) -> usize
     put_byte(out, end, b'\n')
 }
 
-// Stores a byte, where there is room.
-fn put_if_room(out: &mut [u8], at: usize, v: u8)
-    ensures { out.new ≡ set out.old at v }
-{
-    if at < out.len() {
-        out[at] = v;
-        return;
-    }
-}
-
 // Puts the first `n` bytes of a line at `to`, as many as there is room for. Answers the place after all of them.
 pub fn copy_line(out: &mut [u8], to: usize, line: &[u8], n: usize) -> usize
     requires { (n ≤ length line.now) × (to + n < 2 ^ 64) }
     ensures { Put out.old out.new to result (take n line.now) }
 {
-    for i in 0..n {
-        put_if_room(out, to + i, line[i]);
+    if to < out.len() {
+        let kept = n.min(out.len() - to);
+        out[to..to + kept].copy_from_slice(&line[..kept]);
     }
     to + n
 }

@@ -1,7 +1,7 @@
 // A tape that is read in pieces: what is played of the bytes that are there, and what is kept of them for the next read.
 #![tactic(auto)]
 
-ghost use Rattle.std.specs.Prelude.{◌≡◌, false, ◌+◌, ◌≤◌, length, take, drop};
+ghost use Rattle.std.specs.Prelude.{◌≡◌, false, ◌≤◌, length, take, drop};
 ghost use Rattle.std.proofs.lemmas.List.Edits.{sets};
 ghost use Rattle.tape_lines.specs.Facts.{line_room};
 ghost use Rattle.tape_turns.specs.Facts.{rest_of};
@@ -17,16 +17,6 @@ pub struct Kept {
     pub left: usize,
 }
 
-// Moves the `n` bytes from `from` on to the front.
-fn move_down(b: &mut [u8], from: usize, n: usize)
-    requires { from + n ≤ length b.old }
-    ensures { b.new ≡ sets b.old 0 (take n (drop from b.old)) }
-{
-    for i in 0..n {
-        b[i] = b[from + i];
-    }
-}
-
 // Moves what stands from `from` on among the first `have` bytes to the front. Answers how many bytes that are.
 fn keep_rest(b: &mut [u8], from: usize, have: usize) -> usize
     requires { have ≤ length b.old }
@@ -36,7 +26,7 @@ fn keep_rest(b: &mut [u8], from: usize, have: usize) -> usize
     if have <= from {
         return 0;
     }
-    move_down(b, from, have - from);
+    b.copy_within(from..have, 0);
     have - from
 }
 
@@ -44,13 +34,7 @@ fn keep_rest(b: &mut [u8], from: usize, have: usize) -> usize
 fn at_front(t: Turned) -> Turned
     ensures { result ≡ front_turned t }
 {
-    let mount = t.mount;
-    Turned {
-        to: t.to,
-        more: t.more,
-        next: 0,
-        mount,
-    }
+    Turned { next: 0, ..t }
 }
 
 // Plays the records that are ready among the first `have` bytes, and moves what is left to the front.
@@ -67,10 +51,10 @@ fn play_part(
     ensures { Keeps (part_of ended (take have b.old) t.to (length out.old) (rest_of t cnv.old seq.old)) b.old b.new out.old out.new t.to result cnv.new seq.new }
 {
     let played = tape::play_block(&b[..have], ended, t, cnv, seq, out);
-    let next = played.next;
-    let left = keep_rest(b, next, have);
-    let turned = at_front(played);
-    Kept { turned, left }
+    Kept {
+        left: keep_rest(b, played.next, have),
+        turned: at_front(played),
+    }
 }
 
 // Opens a tape by the first `have` bytes, which are the last or hold its first four records whole, and plays on among them.
@@ -109,5 +93,5 @@ pub fn next_part(
 pub fn is_over(more: bool, ended: bool, left: usize) -> bool
     ensures { result ≡ is_over more ended left }
 {
-    !more | (ended & (left == 0))
+    !more || (ended && left == 0)
 }

@@ -1,5 +1,5 @@
 -- The records of a tape: "Each record follows a two-byte mark".
-use Rattle.std.specs.Prelude.{ℕ, ◌+◌, ◌-◌, ◌*◌, List, Bool, true, false, cond, ◌&&◌, length, get_or, take, drop, leb, eqb}
+use Rattle.std.specs.Prelude.{ℕ, ◌+◌, ◌-◌, ◌*◌, List, Bool, true, false, cond, ◌&&◌, length, get_or, take, drop, leb, eqb, Option, Some, None}
 use Prim.Native.Char.{code}
 use Rattle.wire.specs.Le.{le}
 use Rattle.superblock.specs.SuperBlock.{super_length}
@@ -11,7 +11,7 @@ use Rattle.tape_records.specs.declared.Letters.{Letters}
 use Rattle.tape_records.specs.declared.Mark.{Mark}
 use Rattle.tape_records.specs.declared.Mark.TheVariants as mark
 use Rattle.tape_records.specs.declared.Record.{Record}
-use Rattle.tape_records.specs.declared.Record.TheVariants.{OnFile, End, Broken}
+use Rattle.tape_records.specs.declared.Record.TheVariants.{OnFile, End}
 
 -- n bytes stand at a place; else a record there is cut
 abbrev pub holds : ℕ → List ℕ → ℕ → Bool
@@ -81,8 +81,8 @@ named_bytes = mark_bytes + 5
 abbrev pub call_bytes : ℕ
 call_bytes = named_bytes + 16
 
-abbrev pub on_file_at : List ℕ → ℕ → Call → Record
-on_file_at b at x = OnFile (kind_at b at) (number_at b at) x
+abbrev pub on_file_at : List ℕ → ℕ → Call → Option Record
+on_file_at b at x = Some (OnFile (kind_at b at) (number_at b at) x)
 
 abbrev pub offset_at : List ℕ → ℕ → ℕ
 offset_at b at = le 8 b (at + 7)
@@ -101,8 +101,8 @@ end_mark done = cond done mark.Good mark.Failed
 abbrev pub end_bytes : Bool → ℕ
 end_bytes done = cond done named_bytes failed_bytes
 
-abbrev pub end_at : List ℕ → ℕ → Bool → Record
-end_at b at done = End (kind_at b at) (number_at b at) done
+abbrev pub end_at : List ℕ → ℕ → Bool → Option Record
+end_at b at done = Some (End (kind_at b at) (number_at b at) done)
 
 -- its rest: nothing, or the zone's record
 abbrev pub end_record : Bool → List ℕ → ℕ → List ℕ
@@ -121,7 +121,7 @@ record_bytes mark.Failed = end_bytes false
 record_bytes mark.Unknown = mark_bytes
 
 -- and what it says; "TR's size is in length; unused fields ignored"
-abbrev pub record_of : Mark → List ℕ → ℕ → Record
+abbrev pub record_of : Mark → List ℕ → ℕ → Option Record
 record_of mark.Read b at = on_file_at b at (call.Read (offset_at b at) (length_at b at))
 record_of mark.Write b at = on_file_at b at (call.Write (offset_at b at) (length_at b at))
 record_of mark.Truncate b at = on_file_at b at (call.Truncate (length_at b at))
@@ -130,13 +130,13 @@ record_of mark.Open b at = on_file_at b at call.Open
 record_of mark.Close b at = on_file_at b at call.Close
 record_of mark.Good b at = end_at b at true
 record_of mark.Failed b at = end_at b at false
-record_of mark.Unknown b at = Broken
+record_of mark.Unknown b at = None
 
-abbrev pub marked_at : Mark → List ℕ → ℕ → Record
-marked_at m b at = cond (holds (record_bytes m) b at) (record_of m b at) Broken
+abbrev pub marked_at : Mark → List ℕ → ℕ → Option Record
+marked_at m b at = cond (holds (record_bytes m) b at) (record_of m b at) None
 
 -- the record at a place: "Unknown, misplaced or cut record" is broken
-unfoldable pub record_at : List ℕ → ℕ → Record
+unfoldable pub record_at : List ℕ → ℕ → Option Record
 record_at b at = marked_at (mark_at b at) b at
 
 -- ---- before: "`BK` u16; `SB` 4,096 bytes; `ZR` a report ..; `MO` length byte and options; these four once, in order"

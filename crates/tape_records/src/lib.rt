@@ -3,7 +3,7 @@
 
 ghost use Rattle.std.specs.Prelude.{◌≡◌, true, ◌+◌, ◌≤◌, length};
 ghost use Rattle.report.specs.Report.{header_bytes};
-ghost use Rattle.tape_records.specs.Records.{holds, mark_bytes, pair, letters_of, same_letters, pick, mark_of, letters_at, mark_at, kind_at, number_at, named_bytes, call_bytes, on_file_at, offset_at, length_at, end_mark, end_bytes, end_at, end_record, record_bytes, record_of, record_at, report_start, report_length, mount_place, mount_bytes, limits_place, run_place, stands, starts_well, mount_stands, opens, block_of, super_bytes, report_bytes, option_bytes, open_limit_of, active_limit_of};
+ghost use Rattle.tape_records.specs.Records.{holds, mark_bytes, pair, letters_of, mark_of, letters_at, mark_at, kind_at, number_at, named_bytes, call_bytes, on_file_at, offset_at, length_at, end_mark, end_bytes, end_at, end_record, record_bytes, record_of, record_at, report_start, report_length, mount_place, mount_bytes, limits_place, run_place, stands, starts_well, mount_stands, opens, block_of, super_bytes, report_bytes, option_bytes, open_limit_of, active_limit_of};
 ghost use Rattle.tape_records.specs.Facts.{Stands, longest_report, longest_options, Opened};
 
 use report::HEADER_BYTES;
@@ -53,7 +53,7 @@ const LIMITS_BYTES: usize = 8;
 const ACTIVE_LIMIT_AT: usize = 4;
 
 // The two bytes of a mark.
-#[derive(Clone, Copy)]
+#[derive(Clone, Copy, PartialEq, Eq)]
 pub struct Letters {
     pub first: u8,
     pub second: u8,
@@ -70,6 +70,7 @@ pub enum Mark {
     Close,
     Good,
     Failed,
+    // Not None: a record that is none of these is printed by letters of its own, `broken_line`.
     Unknown,
 }
 
@@ -81,19 +82,13 @@ pub enum Record {
     // The end of a command: the byte of its file's kind, the file's number, and whether the command was done well. If it failed, its zone's record
     // follows.
     End(u8, u32, bool),
-    // Unknown, misplaced or cut.
-    Broken,
 }
 
 fn holds(b: &[u8], at: usize, n: usize) -> bool
     ensures value { result ≡ holds n b.now at }
     ensures n_in_bounds { result ≡ true → at + n ≤ length b.now }
 {
-    if at <= b.len() {
-        n <= b.len() - at
-    } else {
-        false
-    }
+    at <= b.len() && n <= b.len() - at
 }
 
 fn pair(first: u8, second: u8) -> Letters
@@ -119,36 +114,22 @@ pub fn letters_of(m: Mark) -> Letters
     }
 }
 
-fn same_letters(l: Letters, m: Letters) -> bool
-    ensures { result ≡ same_letters l m }
-{
-    (l.first == m.first) & (l.second == m.second)
-}
-
-// One mark: itself where these are its letters, else what the others find.
-fn pick(m: Mark, l: Letters, rest: Mark) -> Mark
-    ensures { result ≡ pick m l rest }
-{
-    if same_letters(l, letters_of(m)) {
-        m
-    } else {
-        rest
-    }
-}
-
-// The mark of two letters. The last comes first: each is handed what those after it find.
+// The mark of two letters.
+#[tactic(auto, unfolding(crate::specs::Records::mark_of, crate::specs::Records::pick))]
 fn mark_of(l: Letters) -> Mark
     ensures { result ≡ mark_of l }
 {
-    let rest = Mark::Unknown;
-    let rest = pick(Mark::Failed, l, rest);
-    let rest = pick(Mark::Good, l, rest);
-    let rest = pick(Mark::Close, l, rest);
-    let rest = pick(Mark::Open, l, rest);
-    let rest = pick(Mark::Flush, l, rest);
-    let rest = pick(Mark::Truncate, l, rest);
-    let rest = pick(Mark::Write, l, rest);
-    pick(Mark::Read, l, rest)
+    match (l.first, l.second) {
+        (b'R', b'D') => Mark::Read,
+        (b'W', b'R') => Mark::Write,
+        (b'T', b'R') => Mark::Truncate,
+        (b'F', b'L') => Mark::Flush,
+        (b'O', b'P') => Mark::Open,
+        (b'C', b'L') => Mark::Close,
+        (b'O', b'K') => Mark::Good,
+        (b'N', b'O') => Mark::Failed,
+        _ => Mark::Unknown,
+    }
 }
 
 fn letters_at(b: &[u8], at: usize) -> Letters
@@ -224,20 +205,20 @@ fn number_at(b: &[u8], at: usize) -> u32
     wire::u32_at(b, at + NUMBER_AT)
 }
 
-fn on_file_at(b: &[u8], at: usize, x: Call) -> Record
+fn on_file_at(b: &[u8], at: usize, x: Call) -> Option<Record>
     requires { at + call_bytes ≤ length b.now }
     ensures value { result ≡ on_file_at b.now at x }
     ensures stands { Stands result b.now at }
 {
-    Record::OnFile(kind_at(b, at), number_at(b, at), x)
+    Some(Record::OnFile(kind_at(b, at), number_at(b, at), x))
 }
 
-fn end_at(b: &[u8], at: usize, done: bool) -> Record
+fn end_at(b: &[u8], at: usize, done: bool) -> Option<Record>
     requires { at + end_bytes done ≤ length b.now }
     ensures value { result ≡ end_at b.now at done }
     ensures stands { Stands result b.now at }
 {
-    Record::End(kind_at(b, at), number_at(b, at), done)
+    Some(Record::End(kind_at(b, at), number_at(b, at), done))
 }
 
 fn offset_at(b: &[u8], at: usize) -> u64
@@ -255,7 +236,7 @@ fn length_at(b: &[u8], at: usize) -> u64
 }
 
 // What the whole record of a mark says.
-fn record_of(m: Mark, b: &[u8], at: usize) -> Record
+fn record_of(m: Mark, b: &[u8], at: usize) -> Option<Record>
     requires { at + record_bytes m ≤ length b.now }
     ensures value { result ≡ record_of m b.now at }
     ensures stands { Stands result b.now at }
@@ -269,12 +250,13 @@ fn record_of(m: Mark, b: &[u8], at: usize) -> Record
         Mark::Close => on_file_at(b, at, Call::Close),
         Mark::Good => end_at(b, at, true),
         Mark::Failed => end_at(b, at, false),
-        Mark::Unknown => Record::Broken,
+        Mark::Unknown => None,
     }
 }
 
-// The record at `at`.
-pub fn record_at(b: &[u8], at: usize) -> Record
+// The record at `at`, where it is known, whole and not misplaced.
+#[tactic(auto, unfolding(crate::specs::Records::record_at))]
+pub fn record_at(b: &[u8], at: usize) -> Option<Record>
     ensures value { result ≡ record_at b.now at }
     ensures stands { Stands result b.now at }
 {
@@ -282,7 +264,7 @@ pub fn record_at(b: &[u8], at: usize) -> Record
     if holds(b, at, record_bytes(mark)) {
         record_of(mark, b, at)
     } else {
-        Record::Broken
+        None
     }
 }
 
@@ -328,11 +310,7 @@ fn stands(b: &[u8], at: usize, l: Letters, n: usize) -> bool
     ensures value { result ≡ stands l n b.now at }
     ensures n_in_bounds { result ≡ true → at + n ≤ length b.now }
 {
-    if holds(b, at, n) {
-        same_letters(letters_at(b, at), l)
-    } else {
-        false
-    }
+    holds(b, at, n) && letters_at(b, at) == l
 }
 
 // The first three records stand where they are due, as far as the report's header.
@@ -340,21 +318,9 @@ fn starts_well(b: &[u8]) -> bool
     ensures value { result ≡ starts_well b.now }
     ensures header_bytes_in_bounds { result ≡ true → report_start + header_bytes ≤ length b.now }
 {
-    let block = Letters {
-        first: b'B',
-        second: b'K',
-    };
-    let super_block = Letters {
-        first: b'S',
-        second: b'B',
-    };
-    let report = Letters {
-        first: b'Z',
-        second: b'R',
-    };
-    stands(b, 0, block, SUPER_PLACE)
-        & stands(b, SUPER_PLACE, super_block, MARK_BYTES + SUPER_BYTES)
-        & stands(b, REPORT_PLACE, report, MARK_BYTES + HEADER_BYTES)
+    stands(b, 0, pair(b'B', b'K'), SUPER_PLACE)
+        & stands(b, SUPER_PLACE, pair(b'S', b'B'), MARK_BYTES + SUPER_BYTES)
+        & stands(b, REPORT_PLACE, pair(b'Z', b'R'), MARK_BYTES + HEADER_BYTES)
 }
 
 // `MO` stands after the report.
@@ -363,27 +329,16 @@ fn mount_stands(b: &[u8]) -> bool
     ensures value { result ≡ mount_stands b.now }
     ensures opened { result ≡ true → Opened b.now }
 {
-    let mount = Letters {
-        first: b'M',
-        second: b'O',
-    };
-    if stands(b, mount_place(b), mount, MOUNT_BYTES) {
-        run_place(b) <= b.len()
-    } else {
-        false
-    }
+    stands(b, mount_place(b), pair(b'M', b'O'), MOUNT_BYTES) && run_place(b) <= b.len()
 }
 
 // The first four records stand where they are due.
+#[tactic(auto, unfolding(crate::specs::Records::opens))]
 pub fn opens(b: &[u8]) -> bool
     ensures value { result ≡ opens b.now }
     ensures opened { result ≡ true → Opened b.now }
 {
-    if starts_well(b) {
-        mount_stands(b)
-    } else {
-        false
-    }
+    starts_well(b) && mount_stands(b)
 }
 
 // What the first four records say: the block size, the super block, the report, the mount options and the limits.

@@ -1,14 +1,13 @@
 -- What each record of a tape does: "One line per record from MO on".
-use Rattle.std.specs.Prelude.{ℕ, ◌+◌, List, Bool, true, false, cond}
+use Rattle.std.specs.Prelude.{ℕ, ◌+◌, List, Bool, true, false, cond, Option, Ok, Err, Some, None}
 use Rattle.types.specs.declared.Call.{Call}
-use Rattle.types.specs.declared.MountAnswer.{MountAnswer}
-use Rattle.types.specs.declared.MountAnswer.TheVariants.{Refused, Mounted}
+use Rattle.types.specs.Answers.{MountAnswer}
 use Rattle.types.specs.Mounts.{empty_mount}
 use Rattle.mount.specs.Mount.{Mounting, mount_outcome}
 use Rattle.completion.specs.Completions.{Completion, completion_by}
 use Rattle.engine.specs.Engine.{State, mounted, call, completion, Step, step}
 use Rattle.tape_records.specs.declared.Record.{Record}
-use Rattle.tape_records.specs.declared.Record.TheVariants.{OnFile, End, Broken}
+use Rattle.tape_records.specs.declared.Record.TheVariants.{OnFile, End}
 use Rattle.tape_records.specs.declared.Mark.{Mark}
 use Rattle.tape_records.specs.Records.{call_bytes, end_mark, end_bytes, end_record, record_at, opens, block_of, super_bytes, report_bytes, option_bytes, open_limit_of, active_limit_of, run_place}
 use Rattle.tape_lines.specs.Lines.{call_line, completion_line, mount_line, broken_line}
@@ -47,10 +46,10 @@ abbrev pub end_turn : List ℕ → ℕ → State → ℕ → ℕ → Bool → Tu
 end_turn b at s kind number done =
     completion_turn (at + end_bytes done) (end_mark done) kind number (step s (completion kind number (completion_at b at done)))
 
-abbrev pub turn_of : List ℕ → ℕ → State → Record → Turn
-turn_of b at s (OnFile kind number x) = call_turn (at + call_bytes) x (step s (call kind number x))
-turn_of b at s (End kind number done) = end_turn b at s kind number done
-turn_of b at s Broken = broken_turn at s
+abbrev pub turn_of : List ℕ → ℕ → State → Option Record → Turn
+turn_of b at s (Some (OnFile kind number x)) = call_turn (at + call_bytes) x (step s (call kind number x))
+turn_of b at s (Some (End kind number done)) = end_turn b at s kind number done
+turn_of b at s None = broken_turn at s
 
 unfoldable pub turn_at : List ℕ → ℕ → State → Turn
 turn_at b at s = turn_of b at s (record_at b at)
@@ -59,8 +58,8 @@ turn_at b at s = turn_of b at s (record_at b at)
 
 -- "Refused mount: stop."
 abbrev pub goes_on : MountAnswer → Bool
-goes_on (Refused r) = false
-goes_on (Mounted cnvs seqs) = true
+goes_on (Err r) = false
+goes_on (Ok (cnvs, seqs)) = true
 
 abbrev pub mount_turn : ℕ → Mounting → Turn
 mount_turn next o = turn (mount_line o.answer) (goes_on o.answer) next (mounted o)

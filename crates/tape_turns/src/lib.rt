@@ -6,14 +6,15 @@ ghost use Rattle.engine.specs.Engine.{Input, step};
 ghost use Rattle.engine.specs.Facts.{state_of};
 ghost use Rattle.tape_records.specs.Records.{end_bytes, run_place};
 ghost use Rattle.tape_records.specs.Facts.{Opened};
-ghost use Rattle.tape_turns.specs.Turns.{call_turn, end_turn, broken_turn, mount_turn, turn_at, goes_on, mounting, open_turn};
+ghost use Rattle.tape_turns.specs.Turns.{call_turn, end_turn, broken_turn, mount_turn, turn_at, mounting, open_turn};
 ghost use Rattle.tape_lines.specs.Facts.{line_room};
 ghost use Rattle.tape_turns.specs.Facts.{Takes};
 
 use tape_records::{CALL_BYTES, Record};
-use types::{Call, Mount, MountAnswer, MountOutcome};
+use types::{Call, Mount, MountOutcome};
 
 // What a record left: the place after its line, whether the tape goes on, the place of the next record, and the mount.
+// The flag stays beside the rest: where a tape stops, all of it is still handed on.
 #[derive(Clone, Copy)]
 pub struct Turned {
     pub to: usize,
@@ -38,14 +39,11 @@ fn call_turn(
     ensures { Takes (call_turn next x (step (state_of m cnv.old seq.old) (Input.call kind number x))) out.old out.new to result cnv.new seq.new }
 {
     let o = engine::call(m, cnv, seq, kind as u64, number, x);
-    let answer = o.answer;
-    let mount = o.mount;
-    let end = tape_lines::put_call_line(out, to, x, answer);
     Turned {
-        to: end,
+        to: tape_lines::put_call_line(out, to, x, o.answer),
         more: true,
         next,
-        mount,
+        mount: o.mount,
     }
 }
 
@@ -54,9 +52,8 @@ fn broken_turn(at: usize, m: Mount, out: &mut [u8], to: usize) -> Turned
     requires { to + line_room ≤ length out.old }
     ensures { (cnv seq : List ℕ) → Takes (broken_turn at (state_of m cnv seq)) out.old out.new to result cnv seq }
 {
-    let end = tape_lines::put_broken_line(out, to);
     Turned {
-        to: end,
+        to: tape_lines::put_broken_line(out, to),
         more: false,
         next: at,
         mount: m,
@@ -83,18 +80,16 @@ fn end_turn(
     let record = tape_records::end_record(b, at, done);
     let mark = tape_records::end_mark(done);
     let o = engine::end_command(m, cnv, seq, kind as u64, number, done, record, true);
-    let answer = o.answer;
-    let mount = o.mount;
-    let end = tape_lines::put_completion_line(out, to, mark, kind, number, answer);
     Turned {
-        to: end,
+        to: tape_lines::put_completion_line(out, to, mark, kind, number, o.answer),
         more: true,
         next,
-        mount,
+        mount: o.mount,
     }
 }
 
 // Plays the record at `at`: puts its line at `to`, and hands back what it left.
+#[tactic(auto, unfolding(crate::specs::Turns::turn_at))]
 pub fn take_turn(
     b: &[u8],
     at: usize,
@@ -107,24 +102,16 @@ pub fn take_turn(
     requires { to + line_room ≤ length out.old }
     ensures { Takes (turn_at b.now at (state_of m cnv.old seq.old)) out.old out.new to result cnv.new seq.new }
 {
-    let found = tape_records::record_at(b, at);
-    match found {
+    let Some(record) = tape_records::record_at(b, at) else {
+        return broken_turn(at, m, out, to);
+    };
+    match record {
         Record::OnFile(kind, number, x) => {
             call_turn(m, cnv, seq, kind, number, x, at + CALL_BYTES, out, to)
         }
         Record::End(kind, number, done) => {
             end_turn(b, at, kind, number, done, m, cnv, seq, out, to)
         }
-        Record::Broken => broken_turn(at, m, out, to),
-    }
-}
-
-fn goes_on(a: MountAnswer) -> bool
-    ensures { result ≡ goes_on a }
-{
-    match a {
-        MountAnswer::Refused(_) => false,
-        MountAnswer::Mounted(_, _) => true,
     }
 }
 
@@ -133,19 +120,13 @@ fn mount_from(b: &[u8], cnv: &mut [u64], seq: &mut [u64]) -> MountOutcome
     requires { Opened b.now }
     ensures { mounting b.now cnv.old seq.old ≡ record { answer = result.answer; mount = result.mount; cnv = cnv.new; seq = seq.new } }
 {
-    let block = tape_records::block_of(b);
-    let super_block = tape_records::super_bytes(b);
-    let options = tape_records::option_bytes(b);
-    let report = tape_records::report_bytes(b);
-    let open_limit = tape_records::open_limit_of(b);
-    let active_limit = tape_records::active_limit_of(b);
     mount::mount(
-        block as u64,
-        super_block,
-        options,
-        report,
-        open_limit,
-        active_limit,
+        tape_records::block_of(b) as u64,
+        tape_records::super_bytes(b),
+        tape_records::option_bytes(b),
+        tape_records::report_bytes(b),
+        tape_records::open_limit_of(b),
+        tape_records::active_limit_of(b),
         cnv,
         seq,
     )
@@ -158,19 +139,16 @@ fn mount_turn(b: &[u8], cnv: &mut [u64], seq: &mut [u64], out: &mut [u8], to: us
 {
     let next = tape_records::run_place(b);
     let o = mount_from(b, cnv, seq);
-    let answer = o.answer;
-    let mount = o.mount;
-    let more = goes_on(answer);
-    let end = tape_lines::put_mount_line(out, to, answer);
     Turned {
-        to: end,
-        more,
+        to: tape_lines::put_mount_line(out, to, o.answer),
+        more: o.answer.is_ok(),
         next,
-        mount,
+        mount: o.mount,
     }
 }
 
 // Plays the first four records.
+#[tactic(auto, unfolding(crate::specs::Turns::open_turn))]
 pub fn open_tape(b: &[u8], cnv: &mut [u64], seq: &mut [u64], out: &mut [u8], to: usize) -> Turned
     requires { to + line_room ≤ length out.old }
     ensures { Takes (open_turn b.now cnv.old seq.old) out.old out.new to result cnv.new seq.new }

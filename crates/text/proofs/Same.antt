@@ -1,18 +1,15 @@
--- Two texts that are compared byte by byte: what the answer tells, and how one more byte decides.
+-- Two texts that are compared: what the answer tells.
 -- Assumes nothing.
-use Prim.Native.Nat.{ℕ, ◌+◌, ◌≤◌, ◌<◌}
+use Prim.Native.Nat.{ℕ}
 use native.Mathlib.Decide.{ℕ_discrete}
-use native.Mathlib.Numerals.{add-one}
 use mathlib.Core.Path.{◌≡◌, refl, ap}
 use mathlib.Core.Logic.{◌≢◌}
-use mathlib.Core.Bool.{true, false}
+use mathlib.Core.Bool.{Bool, true, false, ◌&&◌}
 use mathlib.Core.List.{List, [], ◌∷◌}
-use lib.ListN.{length, drop, get_or, drop_of_length-le}
-use lib.Seq.{drop-cons}
+use lib.Pointwise.{pointwise}
+use Rattle.std.specs.Prelude.{nat_eq, eqb}
 use borrow.Author.Tests.{eq-eqb, ne_eqb}
 use Rattle.text.specs.Text.{same}
-
--- WHAT THE ANSWER TELLS
 
 pub same_refl : (b : List ℕ) → same b b ≡ true
 unfolding same
@@ -29,20 +26,10 @@ not_same (x ∷ xs) (y ∷ ys) d = elim (ℕ_discrete x y) [
   | no n ↦ rw (ne_eqb x y n)
 ]
 
-pub same_length : (b c : List ℕ) → length b ≢ length c → same b c ≡ false
-same_length b c d = not_same b c (λ e. d (ap length e))
-
--- BYTE BY BYTE
-
--- byte i, where both have one: another byte there, or the same and the bytes after it decide
-pub same_other : (a b : List ℕ) (i : ℕ) → i < length a → i < length b → get_or a i 0 ≢ get_or b i 0 → same (drop i a) (drop i b) ≡ false
+-- what `==` answers at two slices
+pub same_is : (b c : List ℕ) → same b c ≡ pointwise nat_eq b c
 unfolding same
-same_other a b i h k d = rw (drop-cons a i 0, drop-cons b i 0, ne_eqb (get_or a i 0) (get_or b i 0) d)
-
-pub same_next : (a b : List ℕ) (i : ℕ) → i < length a → i < length b → get_or a i 0 ≡ get_or b i 0 → same (drop (i + 1) a) (drop (i + 1) b) ≡ same (drop i a) (drop i b)
-unfolding same
-same_next a b i h k e = rw (add-one, drop-cons a i 0, drop-cons b i 0, eq-eqb (get_or a i 0) (get_or b i 0) e)
-
-pub same_end : (a b : List ℕ) (i : ℕ) → length a ≤ i → length b ≤ i → same (drop i a) (drop i b) ≡ true
-unfolding same
-same_end a b i h k = rw (drop_of_length-le a, drop_of_length-le b)
+same_is [] [] = refl
+same_is [] (y ∷ ys) = refl
+same_is (x ∷ xs) [] = refl
+same_is (x ∷ xs) (y ∷ ys) = ap (λ (r : Bool). eqb x y && r) (same_is xs ys)

@@ -9,20 +9,11 @@ ghost use Rattle.text.specs.Facts.{field_bytes, Put};
 // The digits that a number has at most.
 const MOST_DIGITS: usize = 20;
 
+#[tactic(auto, using(crate::proofs::Same::same_is))]
 pub fn same_text(a: &[u8], b: &[u8]) -> bool
     ensures { result ≡ same a.now b.now }
 {
-    if a.len() != b.len() {
-        return false;
-    }
-    let mut i = 0;
-    while i < a.len() {
-        if a[i] != b[i] {
-            return false;
-        }
-        i += 1;
-    }
-    true
+    a == b
 }
 
 // One byte.
@@ -35,6 +26,7 @@ pub fn put_byte(out: &mut [u8], at: usize, b: u8) -> usize
 }
 
 // The decimal digits of a number that has at most `places` of them.
+// It stays a recursion: the highest digit comes first, and no index is counted.
 fn put_digits(out: &mut [u8], at: usize, n: u64, places: usize) -> usize
     requires { (at + places ≤ length out.old) × (n < 10 ^ places) × (0 < places) }
     ensures put { Put out.old out.new at result (decimal n) }

@@ -1,12 +1,12 @@
 -- No refusal has the number 0, which is that of what is not refused.
 -- Assumes nothing.
+use Rattle.std.specs.Prelude.{Ok, Err}
 use Prim.Native.Nat.{ℕ, ◌<◌}
 use native.Mathlib.Omega.{arith}
 use mathlib.Core.Path.{◌≡◌, refl}
 use Rattle.types.specs.declared.Refusal.{Refusal}
 use Rattle.types.specs.declared.Refusal.TheVariants.{NoFile, Busy, ReadOnlyMount, Denied, BeyondCapacity, Misplaced, Failed, NothingOutstanding, BadRecord, Impossible, BadBlock, SuperLength, SuperMagic, SuperChecksum, SuperFeatures, SuperOwner, SuperTail, BadOptions, BadReport, BadZone, TooFewRows, SuperPerm, LabelLength, OpenLimit, ActiveLimit, NotOpen, TooManyOpens}
-use Rattle.types.specs.declared.MountAnswer.{MountAnswer}
-use Rattle.types.specs.declared.MountAnswer.TheVariants.{Refused, Mounted}
+use Rattle.types.specs.Answers.{MountAnswer}
 use Rattle.types.specs.Numbers.{refusal_number, mount_number}
 
 refusal_positive : (x : Refusal) → 0 < refusal_number x
@@ -39,6 +39,6 @@ refusal_positive NotOpen = omega arith
 refusal_positive TooManyOpens = omega arith
 
 -- so a mount answered 0 is not refused
-pub mounted-zero : (a : MountAnswer) → mount_number a ≡ 0 → (cnvs : ℕ) × ((seqs : ℕ) × (a ≡ Mounted cnvs seqs))
-mounted-zero (Refused x) e = absurd (omega (arith, refusal_positive x))
-mounted-zero (Mounted cnvs seqs) e = (cnvs, (seqs, refl))
+pub mounted-zero : (a : MountAnswer) → mount_number a ≡ 0 → (cnvs : ℕ) × ((seqs : ℕ) × (a ≡ Ok (cnvs, seqs)))
+mounted-zero (Err x) e = absurd (omega (arith, refusal_positive x))
+mounted-zero (Ok (cnvs, seqs)) e = (cnvs, (seqs, refl))

@@ -1,6 +1,6 @@
 -- The number that stands for each kind, condition, access, policy and command, wherever one is written as a number, and back; and that of
 -- a zone's fault.
-use Rattle.std.specs.Prelude.{ℕ, Bool, cond, eqb, ltb}
+use Rattle.std.specs.Prelude.{ℕ, Bool, cond, eqb, ltb, Option, Some, None}
 use Rattle.types.specs.declared.FileKind.{FileKind}
 use Rattle.types.specs.declared.FileKind.TheVariants.{Conventional, Sequential}
 use Rattle.types.specs.declared.Condition.{Condition}
@@ -77,14 +77,14 @@ command_from n =
 
 -- 02: "a reason, the first of: 1 start, 2 length, 3 capacity (also a conventional one's), 4 end, 5 type, 6 condition, 7 pointer", and for a
 -- completion's record "8 not this file's zone, 9 a better condition"; 0 where there is none to name
-abbrev pub fault_code : ZoneFault → ℕ
-fault_code fault.Nothing = 0
-fault_code fault.Start = 1
-fault_code fault.Length = 2
-fault_code fault.Capacity = 3
-fault_code fault.End = 4
-fault_code fault.Type = 5
-fault_code fault.Condition = 6
-fault_code fault.Pointer = 7
-fault_code fault.OtherZone = 8
-fault_code fault.BetterCondition = 9
+abbrev pub fault_code : Option ZoneFault → ℕ
+fault_code None = 0
+fault_code (Some fault.Start) = 1
+fault_code (Some fault.Length) = 2
+fault_code (Some fault.Capacity) = 3
+fault_code (Some fault.End) = 4
+fault_code (Some fault.Type) = 5
+fault_code (Some fault.Condition) = 6
+fault_code (Some fault.Pointer) = 7
+fault_code (Some fault.OtherZone) = 8
+fault_code (Some fault.BetterCondition) = 9

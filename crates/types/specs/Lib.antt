@@ -1,3 +1,4 @@
+pub mod Answers
 pub mod Blocks
 pub mod Codes
 pub mod Commands

@@ -1,22 +1,17 @@
 -- The number and the values of each answer, as paper 01 gives them: "When the drawer says no", and 0 for what is not refused. 02 adds reasons, 11 to 14, 33 and 34.
-use Rattle.std.specs.Prelude.{ℕ, List, [], ◌∷◌}
+use Rattle.std.specs.Prelude.{ℕ, List, [], ◌∷◌, Result, Ok, Err}
 use Rattle.types.specs.declared.Refusal.{Refusal}
 use Rattle.types.specs.declared.Refusal.TheVariants.{NoFile, Busy, ReadOnlyMount, Denied, BeyondCapacity, Misplaced, Failed, NothingOutstanding, BadRecord, Impossible, BadBlock, SuperLength, SuperMagic, SuperChecksum, SuperFeatures, SuperOwner, SuperTail, BadOptions, BadReport, BadZone, TooFewRows, SuperPerm, LabelLength, OpenLimit, ActiveLimit, NotOpen, TooManyOpens}
 use Rattle.types.specs.declared.RefusalCode.{RefusalCode}
 use Rattle.types.specs.declared.Values.{Values}
 use Rattle.types.specs.declared.Values.TheVariants.{Nothing, One, Two}
-use Rattle.types.specs.declared.Verdict.{Verdict}
-use Rattle.types.specs.declared.Verdict.TheVariants as verdict
-use Rattle.types.specs.declared.Answer.{Answer}
-use Rattle.types.specs.declared.Answer.TheVariants as answer
-use Rattle.types.specs.declared.MountAnswer.{MountAnswer}
-use Rattle.types.specs.declared.MountAnswer.TheVariants as mount
-use Rattle.types.specs.declared.FindAnswer.{FindAnswer}
-use Rattle.types.specs.declared.FindAnswer.TheVariants as find
-use Rattle.types.specs.declared.ShowAnswer.{ShowAnswer}
-use Rattle.types.specs.declared.ShowAnswer.TheVariants as show
-use Rattle.types.specs.declared.FormatAnswer.{FormatAnswer}
-use Rattle.types.specs.declared.FormatAnswer.TheVariants as format
+use Rattle.types.specs.Answers.{Verdict}
+use Rattle.types.specs.Answers.{Answer}
+use Rattle.types.specs.declared.Granted.TheVariants as granted
+use Rattle.types.specs.Answers.{MountAnswer}
+use Rattle.types.specs.Answers.{FindAnswer}
+use Rattle.types.specs.Answers.{ShowAnswer}
+use Rattle.types.specs.Answers.{FormatAnswer}
 use Rattle.types.specs.Codes.{flag_code, kind_code, condition_code, access_code, command_code, fault_code}
 
 -- ---- a refusal
@@ -95,60 +90,58 @@ refusal_number x = (refusal_code x).number
 abbrev pub refusal_values : Refusal → List ℕ
 refusal_values x = listed (refusal_code x).values
 
--- what checks find: 0 where they are passed
-abbrev pub verdict_number : Verdict → ℕ
-verdict_number verdict.Passed = 0
-verdict_number (verdict.Refused x) = refusal_number x
-
-abbrev pub verdict_values : Verdict → List ℕ
-verdict_values verdict.Passed = []
-verdict_values (verdict.Refused x) = refusal_values x
-
 -- ---- answers
 
+-- 0 for what is not refused
+abbrev pub number_of : {A : Type 0} → Result A Refusal → ℕ
+number_of (Ok a) = 0
+number_of (Err x) = refusal_number x
+
+-- what checks find
+abbrev pub verdict_number : Verdict → ℕ
+verdict_number = number_of
+
+abbrev pub verdict_values : Verdict → List ℕ
+verdict_values (Ok tt) = []
+verdict_values (Err x) = refusal_values x
+
 abbrev pub answer_number : Answer → ℕ
-answer_number (answer.Refused r) = refusal_number r
-answer_number (answer.Done count) = 0
-answer_number (answer.Issue c) = 0
+answer_number = number_of
 
 -- the count, or the command: "a kind, a byte address and a byte length"
 abbrev pub answer_values : Answer → List ℕ
-answer_values (answer.Refused r) = refusal_values r
-answer_values (answer.Done count) = count ∷ []
-answer_values (answer.Issue c) = command_code c.kind ∷ c.address ∷ c.length ∷ []
+answer_values (Err r) = refusal_values r
+answer_values (Ok (granted.Done count)) = count ∷ []
+answer_values (Ok (granted.Issue c)) = command_code c.kind ∷ c.address ∷ c.length ∷ []
 
 abbrev pub mount_number : MountAnswer → ℕ
-mount_number (mount.Refused r) = refusal_number r
-mount_number (mount.Mounted conventional sequential) = 0
+mount_number = number_of
 
 -- "for MO 0 both file counts, cnv first"
 abbrev pub mount_values : MountAnswer → List ℕ
-mount_values (mount.Refused r) = refusal_values r
-mount_values (mount.Mounted conventional sequential) = conventional ∷ sequential ∷ []
+mount_values (Err r) = refusal_values r
+mount_values (Ok (conventional, sequential)) = conventional ∷ sequential ∷ []
 
 abbrev pub find_number : FindAnswer → ℕ
-find_number (find.Refused r) = refusal_number r
-find_number (find.Found kind number) = 0
+find_number = number_of
 
 abbrev pub find_values : FindAnswer → List ℕ
-find_values (find.Refused r) = refusal_values r
-find_values (find.Found kind number) = kind_code kind ∷ number ∷ []
+find_values (Err r) = refusal_values r
+find_values (Ok (kind, number)) = kind_code kind ∷ number ∷ []
 
 abbrev pub show_number : ShowAnswer → ℕ
-show_number (show.Refused r) = refusal_number r
-show_number (show.Shown row mode) = 0
+show_number = number_of
 
 -- "start, capacity in bytes, size, condition, access (write, read, none)", and "the mode shown"
 abbrev pub show_values : ShowAnswer → List ℕ
-show_values (show.Refused r) = refusal_values r
-show_values (show.Shown row mode) =
+show_values (Err r) = refusal_values r
+show_values (Ok (row, mode)) =
     row.start ∷ row.capacity ∷ row.size ∷ condition_code row.condition ∷ access_code row.access ∷ mode ∷ []
 
 abbrev pub format_number : FormatAnswer → ℕ
-format_number (format.Refused r) = refusal_number r
-format_number (format.Formatted finish) = 0
+format_number = number_of
 
 -- 02: "say whether zone 0 must first be finished": 1 for yes
 abbrev pub format_values : FormatAnswer → List ℕ
-format_values (format.Refused r) = refusal_values r
-format_values (format.Formatted finish) = flag_code finish ∷ []
+format_values (Err r) = refusal_values r
+format_values (Ok finish) = flag_code finish ∷ []

@@ -1,31 +1,19 @@
 // What each answer is in numbers; and a chain of checks, of which the first that fails decides.
 ghost use Rattle.std.specs.Prelude.{◌≡◌};
-ghost use Rattle.types.specs.Numbers.{plain, with_value, with_two, refusal_code, refusal_number, answer_number, mount_number, find_number, show_number, format_number};
-ghost use Rattle.types.specs.Verdicts.{refuse, and_then};
+ghost use Rattle.types.specs.Numbers.{plain, with_value, with_two, refusal_code, refusal_number, number_of};
+ghost use Rattle.types.specs.Verdicts.{refuse};
 
 use crate::codes::fault_code;
-use crate::{
-    Answer, FindAnswer, FormatAnswer, MountAnswer, Refusal, RefusalCode, ShowAnswer, Values,
-    Verdict,
-};
+use crate::{Refusal, RefusalCode, Values};
 
-// One check of a chain: its refusal where it fails, else what the rest finds.
-pub fn refuse(fails: bool, x: Refusal, rest: Verdict) -> Verdict
-    ensures { result ≡ refuse fails x rest }
+// One check of a chain: its refusal where it fails. `?` goes on to the next where it doesn't.
+pub fn refuse(fails: bool, x: Refusal) -> Result<(), Refusal>
+    ensures { result ≡ refuse fails x (Ok tt) }
 {
-    if fails { Verdict::Refused(x) } else { rest }
+    if fails { Err(x) } else { Ok(()) }
 }
 
-// Checks that have been made: what they refuse, else what the rest finds.
-pub fn and_then(found: Verdict, rest: Verdict) -> Verdict
-    ensures { result ≡ and_then found rest }
-{
-    match found {
-        Verdict::Passed => rest,
-        Verdict::Refused(x) => Verdict::Refused(x),
-    }
-}
-
+// These three stay: the definitions have the same, and the table of refusals below reads as the papers' by them.
 fn plain(number: u64) -> RefusalCode
     ensures { result ≡ plain number }
 {
@@ -54,6 +42,7 @@ fn with_two(number: u64, first: u64, second: u64) -> RefusalCode
 }
 
 // The number of a refusal, and its values.
+// The numbers stay here alone: this is the papers' table (`refusal_code` of the specs).
 pub fn refusal_code(x: Refusal) -> RefusalCode
     ensures { result ≡ refusal_code x }
 {
@@ -91,52 +80,15 @@ pub fn refusal_code(x: Refusal) -> RefusalCode
 pub fn refusal_number(x: Refusal) -> u64
     ensures { result ≡ refusal_number x }
 {
-    let code = refusal_code(x);
-    code.number
+    refusal_code(x).number
 }
 
-pub fn answer_number(a: Answer) -> u64
-    ensures { result ≡ answer_number a }
+// The number of any answer: its refusal's, or 0.
+pub fn number_of<T: Drop>(a: Result<T, Refusal>) -> u64
+    ensures { result ≡ number_of a }
 {
     match a {
-        Answer::Refused(r) => refusal_number(r),
-        Answer::Done(_) => 0,
-        Answer::Issue(_) => 0,
-    }
-}
-
-pub fn mount_number(a: MountAnswer) -> u64
-    ensures { result ≡ mount_number a }
-{
-    match a {
-        MountAnswer::Refused(r) => refusal_number(r),
-        MountAnswer::Mounted(_, _) => 0,
-    }
-}
-
-pub fn find_number(a: FindAnswer) -> u64
-    ensures { result ≡ find_number a }
-{
-    match a {
-        FindAnswer::Refused(r) => refusal_number(r),
-        FindAnswer::Found(_, _) => 0,
-    }
-}
-
-pub fn show_number(a: ShowAnswer) -> u64
-    ensures { result ≡ show_number a }
-{
-    match a {
-        ShowAnswer::Refused(r) => refusal_number(r),
-        ShowAnswer::Shown(_, _) => 0,
-    }
-}
-
-pub fn format_number(a: FormatAnswer) -> u64
-    ensures { result ≡ format_number a }
-{
-    match a {
-        FormatAnswer::Refused(r) => refusal_number(r),
-        FormatAnswer::Formatted(_) => 0,
+        Ok(_) => 0,
+        Err(x) => refusal_number(x),
     }
 }

@@ -18,12 +18,14 @@ pub fn flag_code(yes: bool) -> u64
     if yes { 1 } else { 0 }
 }
 
-pub fn kind_code(k: FileKind) -> u64
-    ensures { result ≡ kind_code k }
-{
-    match k {
-        FileKind::Conventional => 0,
-        FileKind::Sequential => 1,
+impl From<FileKind> for u64 {
+    ghost from_gives = { λ k n. n ≡ kind_code k };
+
+    fn from(k: FileKind) -> u64 {
+        match k {
+            FileKind::Conventional => 0,
+            FileKind::Sequential => 1,
+        }
     }
 }
 
@@ -35,6 +37,7 @@ pub fn is_kind(code: u64) -> bool
 }
 
 // The kind of a code.
+// It stays beside `From`: any number has a kind here, as `kind_from` of the specs says, and a `TryFrom` would give none above 1.
 pub fn kind_from(code: u64) -> FileKind
     ensures { result ≡ kind_from code }
 {
@@ -45,40 +48,45 @@ pub fn kind_from(code: u64) -> FileKind
     }
 }
 
-pub fn condition_code(c: Condition) -> u64
-    ensures value { result ≡ condition_code c }
-    ensures upper_bound { result < 3 }
-{
-    match c {
-        Condition::Healthy => 0,
-        Condition::ReadOnly => 1,
-        Condition::Offline => 2,
+impl From<Condition> for u64 {
+    ghost from_gives = { λ c n. (n ≡ condition_code c) × (n < 3) };
+
+    fn from(c: Condition) -> u64 {
+        match c {
+            Condition::Healthy => 0,
+            Condition::ReadOnly => 1,
+            Condition::Offline => 2,
+        }
     }
 }
 
-pub fn access_code(a: Access) -> u64
-    ensures { result ≡ access_code a }
-{
-    match a {
-        Access::Nothing => 0,
-        Access::Read => 1,
-        Access::Write => 2,
+impl From<Access> for u64 {
+    ghost from_gives = { λ a n. n ≡ access_code a };
+
+    fn from(a: Access) -> u64 {
+        match a {
+            Access::Nothing => 0,
+            Access::Read => 1,
+            Access::Write => 2,
+        }
     }
 }
 
-pub fn policy_code(p: ErrorPolicy) -> u64
-    ensures value { result ≡ policy_code p }
-    ensures upper_bound { result < 4 }
-{
-    match p {
-        ErrorPolicy::RemountRo => 0,
-        ErrorPolicy::ZoneRo => 1,
-        ErrorPolicy::ZoneOffline => 2,
-        ErrorPolicy::Repair => 3,
+impl From<ErrorPolicy> for u64 {
+    ghost from_gives = { λ p n. (n ≡ policy_code p) × (n < 4) };
+
+    fn from(p: ErrorPolicy) -> u64 {
+        match p {
+            ErrorPolicy::RemountRo => 0,
+            ErrorPolicy::ZoneRo => 1,
+            ErrorPolicy::ZoneOffline => 2,
+            ErrorPolicy::Repair => 3,
+        }
     }
 }
 
 // The policy of a code.
+// It stays for any number, as `policy_from` of the specs says of those that are none's.
 pub fn policy_from(code: u64) -> ErrorPolicy
     ensures { result ≡ policy_from code }
 {
@@ -90,21 +98,24 @@ pub fn policy_from(code: u64) -> ErrorPolicy
     }
 }
 
-pub fn command_code(k: CommandKind) -> u64
-    ensures { result ≡ command_code k }
-{
-    match k {
-        CommandKind::Read => 0,
-        CommandKind::Write => 1,
-        CommandKind::Reset => 2,
-        CommandKind::Finish => 3,
-        CommandKind::Flush => 4,
-        CommandKind::Open => 5,
-        CommandKind::Close => 6,
+impl From<CommandKind> for u64 {
+    ghost from_gives = { λ k n. n ≡ command_code k };
+
+    fn from(k: CommandKind) -> u64 {
+        match k {
+            CommandKind::Read => 0,
+            CommandKind::Write => 1,
+            CommandKind::Reset => 2,
+            CommandKind::Finish => 3,
+            CommandKind::Flush => 4,
+            CommandKind::Open => 5,
+            CommandKind::Close => 6,
+        }
     }
 }
 
 // The command of a code.
+// It stays for any number, as `command_from` of the specs says of those that are none's.
 pub fn command_from(code: u64) -> CommandKind
     ensures { result ≡ command_from code }
 {
@@ -120,19 +131,20 @@ pub fn command_from(code: u64) -> CommandKind
 }
 
 // The number of a zone's fault: 0 for none, else its place in the order of the tests.
-pub fn fault_code(fault: ZoneFault) -> u64
+// No `From`: it stays a function, since no fault has a number, too.
+pub fn fault_code(fault: Option<ZoneFault>) -> u64
     ensures { result ≡ fault_code fault }
 {
     match fault {
-        ZoneFault::Nothing => 0,
-        ZoneFault::Start => 1,
-        ZoneFault::Length => 2,
-        ZoneFault::Capacity => 3,
-        ZoneFault::End => 4,
-        ZoneFault::Type => 5,
-        ZoneFault::Condition => 6,
-        ZoneFault::Pointer => 7,
-        ZoneFault::OtherZone => 8,
-        ZoneFault::BetterCondition => 9,
+        None => 0,
+        Some(ZoneFault::Start) => 1,
+        Some(ZoneFault::Length) => 2,
+        Some(ZoneFault::Capacity) => 3,
+        Some(ZoneFault::End) => 4,
+        Some(ZoneFault::Type) => 5,
+        Some(ZoneFault::Condition) => 6,
+        Some(ZoneFault::Pointer) => 7,
+        Some(ZoneFault::OtherZone) => 8,
+        Some(ZoneFault::BetterCondition) => 9,
     }
 }

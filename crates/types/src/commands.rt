@@ -4,6 +4,7 @@ ghost use Rattle.types.specs.Commands.{movement_of, is_read, is_opening};
 
 use crate::{CommandKind, Movement};
 
+// Each command keeps its line, so that a new one is an error here (`movement_of` of the specs).
 pub fn movement_of(k: CommandKind) -> Movement
     ensures { result ≡ movement_of k }
 {
@@ -21,27 +22,11 @@ pub fn movement_of(k: CommandKind) -> Movement
 pub fn is_read(k: CommandKind) -> bool
     ensures { result ≡ is_read k }
 {
-    match k {
-        CommandKind::Read => true,
-        CommandKind::Write => false,
-        CommandKind::Reset => false,
-        CommandKind::Finish => false,
-        CommandKind::Flush => false,
-        CommandKind::Open => false,
-        CommandKind::Close => false,
-    }
+    k == CommandKind::Read
 }
 
 pub fn is_opening(k: CommandKind) -> bool
     ensures { result ≡ is_opening k }
 {
-    match k {
-        CommandKind::Read => false,
-        CommandKind::Write => false,
-        CommandKind::Reset => false,
-        CommandKind::Finish => false,
-        CommandKind::Flush => false,
-        CommandKind::Open => true,
-        CommandKind::Close => false,
-    }
+    k == CommandKind::Open
 }

@@ -2,19 +2,19 @@
 ghost use Rattle.std.specs.Prelude.{◌≡◌};
 ghost use Rattle.types.specs.Effects.{answering, refusing};
 
-use crate::{Answer, Effect, Mount, Outcome, Refusal, Store};
+use crate::{Effect, Granted, Mount, Outcome, Refusal};
 
-pub fn answering(answer: Answer, m: Mount) -> Effect
+pub fn answering(answer: Result<Granted, Refusal>, m: Mount) -> Effect
     ensures { result ≡ answering answer m }
 {
     Effect {
         outcome: Outcome { answer, mount: m },
-        store: Store::Nothing,
+        store: None,
     }
 }
 
 pub fn refusing(m: Mount, x: Refusal) -> Effect
     ensures { result ≡ refusing m x }
 {
-    answering(Answer::Refused(x), m)
+    answering(Err(x), m)
 }

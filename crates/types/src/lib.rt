@@ -9,14 +9,14 @@ pub mod mounts; // the empty mount value, and what calls and completions change 
 pub mod predicates; // tests of a kind, a condition, an access, and of what is outstanding
 pub mod units; // sectors, blocks, and the limits of disks and mounts
 
-#[derive(Clone, Copy)]
+#[derive(Clone, Copy, PartialEq, Eq)]
 pub enum FileKind {
     Conventional,
     Sequential,
 }
 
 // The condition of a zone, as far as a file can tell.
-#[derive(Clone, Copy)]
+#[derive(Clone, Copy, PartialEq, Eq)]
 pub enum Condition {
     Healthy,
     ReadOnly,
@@ -24,7 +24,7 @@ pub enum Condition {
 }
 
 // What a file still allows. Write includes read.
-#[derive(Clone, Copy)]
+#[derive(Clone, Copy, PartialEq, Eq)]
 pub enum Access {
     Nothing,
     Read,
@@ -40,7 +40,7 @@ pub enum ErrorPolicy {
     Repair,
 }
 
-#[derive(Clone, Copy)]
+#[derive(Clone, Copy, PartialEq, Eq)]
 pub enum CommandKind {
     Read,
     Write,
@@ -52,6 +52,7 @@ pub enum CommandKind {
 }
 
 // What a command that is done moves: the size of its file, and the pointer of its zone.
+// It stays a switch on what is moved: the disk's rules are stated over it (`movement_of` of the specs).
 #[derive(Clone, Copy)]
 pub enum Movement {
     Stays,
@@ -63,7 +64,7 @@ pub enum Movement {
 }
 
 // A command to the disk. Address and length in bytes; the length is 0 but for reads and writes.
-#[derive(Clone, Copy)]
+#[derive(Clone, Copy, PartialEq, Eq)]
 pub struct Command {
     pub kind: CommandKind,
     pub address: u64,
@@ -72,6 +73,7 @@ pub struct Command {
 
 // What is outstanding on a file: nothing, an issued command, or a code that is no command's. The last is never stored: it is what the words of
 // a lent table may say, and a completion then answers 10.
+// It stays an enum of three cases: `is_busy` and `pending_by` of the specs answer on each of them.
 #[derive(Clone, Copy)]
 pub enum Outstanding {
     Idle,
@@ -148,8 +150,6 @@ pub struct Mount {
 // command, which has to be of its file's zone.
 #[derive(Clone, Copy)]
 pub enum ZoneFault {
-    // No field is at fault: of a good zone, and of bytes that are no record.
-    Nothing,
     Start,
     Length,
     Capacity,
@@ -174,7 +174,7 @@ pub enum Refusal {
     Failed(u64),
     NothingOutstanding,
     // Why the record doesn't fit.
-    BadRecord(ZoneFault),
+    BadRecord(Option<ZoneFault>),
     Impossible,
     BadBlock,
     SuperLength,
@@ -186,7 +186,7 @@ pub enum Refusal {
     BadOptions,
     BadReport,
     // The lowest number of a bad zone, and why it is bad.
-    BadZone(u32, ZoneFault),
+    BadZone(u32, Option<ZoneFault>),
     TooFewRows,
     SuperPerm,
     LabelLength,
@@ -197,6 +197,7 @@ pub enum Refusal {
 }
 
 // The values that a refusal tells beside its number.
+// Three cases stay: up to two numbers in a row are no plainer as an option in an option.
 #[derive(Clone, Copy)]
 pub enum Values {
     Nothing,
@@ -211,73 +212,33 @@ pub struct RefusalCode {
     pub values: Values,
 }
 
-// What checks find: nothing, or what the first of them refuses.
+// What a call or a completion answers where it isn't refused: a count with nothing more to do, or a command to be done.
 #[derive(Clone, Copy)]
-pub enum Verdict {
-    Passed,
-    Refused(Refusal),
-}
-
-// What a call or a completion answers: a refusal, a count with nothing more to do, or a command to be done.
-#[derive(Clone, Copy)]
-pub enum Answer {
-    Refused(Refusal),
+pub enum Granted {
     Done(u64),
     Issue(Command),
 }
 
-// What a mount answers: a refusal, or the numbers of conventional and of sequential files.
-#[derive(Clone, Copy)]
-pub enum MountAnswer {
-    Refused(Refusal),
-    Mounted(u32, u32),
-}
-
-// What finding a name answers: a refusal, or the file.
-#[derive(Clone, Copy)]
-pub enum FindAnswer {
-    Refused(Refusal),
-    Found(FileKind, u32),
-}
-
-// What showing a file answers: a refusal, or its row and the mode shown.
-#[derive(Clone, Copy)]
-pub enum ShowAnswer {
-    Refused(Refusal),
-    Shown(Row, u32),
-}
-
-// What formatting answers: a refusal, or whether zone 0 must first be finished.
-#[derive(Clone, Copy)]
-pub enum FormatAnswer {
-    Refused(Refusal),
-    Formatted(bool),
-}
-
 // What a call or a completion gives beside the tables.
+// The answer stays beside the mount: 7 refuses and changes the mount (`recovering` of the specs).
 #[derive(Clone, Copy)]
 pub struct Outcome {
-    pub answer: Answer,
+    pub answer: Result<Granted, Refusal>,
     pub mount: Mount,
 }
 
-// What a call or a completion stores: nothing, or the row of a file.
-#[derive(Clone, Copy)]
-pub enum Store {
-    Nothing,
-    Put(FileKind, u32, Row),
-}
-
-// What a call or a completion does: its answer with the mount after it, and what it stores.
+// What a call or a completion does: its answer with the mount after it, and what it stores: nothing, or the row of a
+// file.
 #[derive(Clone, Copy)]
 pub struct Effect {
     pub outcome: Outcome,
-    pub store: Store,
+    pub store: Option<(FileKind, u32, Row)>,
 }
 
-// What a mount gives beside the tables.
+// What a mount gives beside the tables: the numbers of conventional and of sequential files, or why it was refused.
+// The answer stays beside the mount: a refusal hands out the empty one (`mount_outcome` of the specs), and C gets its words.
 #[derive(Clone, Copy)]
 pub struct MountOutcome {
-    pub answer: MountAnswer,
+    pub answer: Result<(u32, u32), Refusal>,
     pub mount: Mount,
 }

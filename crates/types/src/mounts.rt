@@ -36,12 +36,9 @@ pub fn empty_mount() -> Mount
 pub fn made_readonly(m: Mount) -> Mount
     ensures { result ≡ read_only m }
 {
-    let volume = m.volume;
-    let account = m.account;
     Mount {
-        volume,
         readonly: true,
-        account,
+        ..m
     }
 }
 
@@ -49,10 +46,5 @@ pub fn made_readonly(m: Mount) -> Mount
 pub fn with_account(m: Mount, account: Account) -> Mount
     ensures { result ≡ with_account m account }
 {
-    let volume = m.volume;
-    Mount {
-        volume,
-        readonly: m.readonly,
-        account,
-    }
+    Mount { account, ..m }
 }

@@ -7,69 +7,42 @@ use crate::{Access, Condition, FileKind, Outstanding};
 pub fn is_conventional(k: FileKind) -> bool
     ensures { result ≡ is_conventional k }
 {
-    match k {
-        FileKind::Conventional => true,
-        FileKind::Sequential => false,
-    }
+    k == FileKind::Conventional
 }
 
 pub fn is_healthy(c: Condition) -> bool
     ensures { result ≡ is_healthy c }
 {
-    match c {
-        Condition::Healthy => true,
-        Condition::ReadOnly => false,
-        Condition::Offline => false,
-    }
+    c == Condition::Healthy
 }
 
 pub fn is_readonly(c: Condition) -> bool
     ensures { result ≡ is_read_only c }
 {
-    match c {
-        Condition::Healthy => false,
-        Condition::ReadOnly => true,
-        Condition::Offline => false,
-    }
+    c == Condition::ReadOnly
 }
 
 pub fn is_offline(c: Condition) -> bool
     ensures { result ≡ is_offline c }
 {
-    match c {
-        Condition::Healthy => false,
-        Condition::ReadOnly => false,
-        Condition::Offline => true,
-    }
+    c == Condition::Offline
 }
 
 pub fn is_none(a: Access) -> bool
     ensures { result ≡ is_none a }
 {
-    match a {
-        Access::Nothing => true,
-        Access::Read => false,
-        Access::Write => false,
-    }
+    a == Access::Nothing
 }
 
 pub fn is_write(a: Access) -> bool
     ensures { result ≡ is_write a }
 {
-    match a {
-        Access::Nothing => false,
-        Access::Read => false,
-        Access::Write => true,
-    }
+    a == Access::Write
 }
 
 // A command is outstanding.
 pub fn is_busy(o: Outstanding) -> bool
     ensures { result ≡ is_busy o }
 {
-    match o {
-        Outstanding::Idle => false,
-        Outstanding::Busy(_) => true,
-        Outstanding::Unknown => true,
-    }
+    !matches!(o, Outstanding::Idle)
 }

@@ -1,111 +1,114 @@
-// Lines of text: where a byte stands, and the numbers of a line.
-ghost use Rattle.std.specs.Prelude.{◌≤◌, ◌<◌, length};
+// Lines of text: what stands between two marks, and the numbers of a line.
+ghost use Rattle.std.specs.Prelude.{◌<◌, ◌≤◌, IfOk, IfSome};
+ghost use Rattle.vectors.specs.declared.lines.TheConstants.{MOST};
 
 use crate::printing;
-use crate::printing::Output;
+use std::io;
+use std::io::Write;
 
-// The numbers of a line stand from place 1 on. There are at most 31.
-pub const PLACES: usize = 32;
+// The most numbers that a line has.
+pub const MOST: usize = 31;
 
 // A number below this has room for one more digit.
 const ROOM: u64 = 0x1000_0000_0000_0000;
 
-// The next place of a byte from `from` on, or the end.
-pub fn find(s: &[u8], from: usize, mark: u8) -> usize
-    requires { from ≤ length s.now }
-    ensures { (from ≤ result) × (result ≤ length s.now) }
-{
-    for i in from..s.len() {
-        if s[i] == mark {
-            return i;
-        }
+// What stands before the first byte `mark`, which is all where it isn't there.
+fn before(s: &[u8], mark: u8) -> &[u8] {
+    match s.iter().position(|b| *b == mark) {
+        Some(at) => &s[..at],
+        None => s,
     }
-    s.len()
 }
 
-// The place after one, where that is not the end.
-fn past(at: usize, end: usize) -> usize
-    requires { at ≤ end }
-    ensures { result ≤ end }
-{
-    if at < end { at + 1 } else { at }
+// What stands behind the first byte `mark`, which is nothing where it isn't there.
+fn behind(s: &[u8], mark: u8) -> &[u8] {
+    match s.iter().position(|b| *b == mark) {
+        Some(at) => &s[at + 1..],
+        None => &[],
+    }
 }
 
 // What stands between the first byte `after` and the next byte `until`. Where one of them isn't there, the end is in its place.
 pub fn between(s: &[u8], after: u8, until: u8) -> &[u8] {
-    let start = past(find(s, 0, after), s.len());
-    let end = find(s, start, until);
-    &s[start..end]
+    before(behind(s, after), until)
 }
 
-// The value of a digit; 16 for a byte that may stand between digits.
-fn digit(out: &mut Output, c: u8) -> u64
-    ensures { result ≤ 16 }
+// The value of a digit, or none for a byte that may stand between digits. `to_digit` would take capital letters too.
+fn digit(out: &mut impl Write, c: u8) -> io::Result<Option<u64>>
+    ensures { IfOk result (λ digit. IfSome digit (λ d. d < 16)) }
 {
     match c {
-        b'0'..=b'9' => (c - b'0') as u64,
-        b'a'..=b'f' => (c - b'a') as u64 + 10,
-        b' ' | b'=' | b'x' | b'_' => 16,
+        b'0'..=b'9' => Ok(Some(u64::from(c - b'0'))),
+        b'a'..=b'f' => Ok(Some(u64::from(c - b'a') + 10)),
+        b'x' | b'_' => Ok(None),
         _ => {
-            printing::bad_line(out);
-            16
+            printing::bad_line(out)?;
+            Ok(None)
         }
     }
 }
 
-// The base of the number that a byte belongs to, given the base of the byte before it. Between numbers it is 0.
-fn base_after(base: u64, c: u8) -> u64 {
-    match c {
-        b' ' | b'=' => 0,
-        b'x' => 16,
-        _ => if base == 16 { 16 } else { 10 },
+// A number with the digits of `word` behind its own: decimal ones and, from an x on, hexadecimal ones. Where it gets too long, its highest digits
+// fall off; `parse` would refuse it.
+fn grown(out: &mut impl Write, number: u64, word: &[u8]) -> io::Result<u64> {
+    let mut number = number;
+    let mut base = 10;
+    for &c in word {
+        if c == b'x' {
+            base = 16;
+        }
+        if let Some(d) = digit(out, c)? {
+            number = number % ROOM * base + d;
+        }
+    }
+    Ok(number)
+}
+
+// The numbers of a line, which its `count` first places hold: a `Vec` would need a heap, and a longest line is known.
+#[derive(Drop)]
+pub struct Numbers {
+    places: [u64; MOST],
+    count: usize,
+    ghost fits: { count ≤ MOST },
+}
+
+impl Numbers {
+    // Reads one number more. What is past the last place is read as more digits of the number there.
+    fn read(&mut self, out: &mut impl Write, word: &[u8]) -> io::Result<()> {
+        if self.count < MOST {
+            self.count += 1;
+        } else {
+            printing::bad_line(out)?;
+        }
+        let last = self.count - 1;
+        self.places[last] = grown(out, self.places[last], word)?;
+        Ok(())
+    }
+
+    pub fn as_slice(&self) -> &[u64] {
+        &self.places[..self.count]
     }
 }
 
-// A number with one more digit, if the byte is one.
-fn grown(out: &mut Output, n: u64, base: u64, c: u8) -> u64 {
-    let d = digit(out, c);
-    if d == 16 {
-        n
-    } else if base == 16 {
-        n % ROOM * 16 + d
-    } else {
-        n % ROOM * 10 + d
+// Reads the numbers between the first word of a line and its bar.
+pub fn read_numbers(out: &mut impl Write, line: &[u8]) -> io::Result<Numbers> {
+    let mut numbers = Numbers {
+        places: [0; MOST],
+        count: 0,
+    };
+    for word in behind(before(line, b'|'), b' ').split(|c| *c == b' ' || *c == b'=') {
+        if !word.is_empty() {
+            numbers.read(out, word)?;
+        }
     }
+    Ok(numbers)
 }
 
-// A number begins where the base is 0 no longer.
-fn place_after(out: &mut Output, place: usize, before: u64, base: u64) -> usize
-    requires { place < 32 }
-    ensures { result < 32 }
-{
-    if before != 0 {
-        return place;
+// The first `N` of some numbers, with 0 for each that isn't there.
+pub fn first<const N: usize>(numbers: &[u64]) -> [u64; N] {
+    let mut own = [0; N];
+    for (to, number) in own.iter_mut().zip(numbers) {
+        *to = *number;
     }
-    if base == 0 {
-        return place;
-    }
-    if place < PLACES - 1 {
-        place + 1
-    } else {
-        printing::bad_line(out);
-        place
-    }
-}
-
-// Reads the numbers between the first word of a line and its bar, decimal ones and, after 0x, hexadecimal ones. Answers the place of the last.
-pub fn read_numbers(out: &mut Output, line: &[u8], to: &mut [u64; PLACES]) -> usize
-    ensures { result < 32 }
-{
-    let mut place = 0;
-    let mut base = 0;
-    let end = find(line, 0, b'|');
-    for i in find(line, 0, b' ')..end {
-        let c = line[i];
-        let before = base;
-        base = base_after(before, c);
-        place = place_after(out, place, before, base);
-        to[place] = grown(out, to[place], base, c);
-    }
-    place
+    own
 }

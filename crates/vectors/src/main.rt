@@ -1,8 +1,6 @@
 // Runs the vectors of standard input, a line each, and writes what each answers. The file `stdin` says how a vector is written.
 #![tactic(auto)]
 
-ghost use Rattle.std.specs.Prelude.{◌≤◌, ◌<◌, length, IfOk};
-
 mod image;
 mod lines;
 mod mounts;
@@ -13,87 +11,91 @@ mod reports;
 mod superblocks;
 
 use image::IMAGE_BYTES;
-use lines::PLACES;
-use printing::Output;
+use lines::MOST;
 use std::io;
-use std::io::Read;
+use std::io::{Read, Write};
 
-// The place of a vector's first word, behind the numbers of its own.
-fn words_from(kind: u8) -> usize {
-    match kind {
-        b's' | b'r' => 2,
-        b'm' => 7,
-        _ => PLACES,
+// The bytes of the text that are read.
+const TEXT_BYTES: usize = 65536;
+
+// A vector's line, the numbers there, and the image that it begins with.
+#[derive(Clone, Copy)]
+struct Vector<'a> {
+    line: &'a [u8],
+    numbers: &'a [u64],
+    image: &'a [u8; IMAGE_BYTES],
+}
+
+impl<'a> Vector<'a> {
+    // Runs it on a copy of the image, which the words behind its first `own` numbers change, and writes its line: its label, and what it answers.
+    fn run<W: Write, F>(self, out: &mut W, own: usize, answer: F) -> io::Result<()>
+    where
+        F: FnOnce(&mut W, &[u8; IMAGE_BYTES]) -> io::Result<()>,
+        requires { F.IsAlwaysCallable answer }
+    {
+        let mut lent = *self.image;
+        let words = &self.numbers[own.min(self.numbers.len())..];
+        image::put_words(out, &mut lent, words)?;
+        out.write_all(lines::between(self.line, b'|', b'['))?;
+        answer(out, &lent)?;
+        writeln!(out)
     }
 }
 
-// What a vector answers.
-fn answer(
-    out: &mut Output,
-    kind: u8,
-    numbers: &[u64; PLACES],
-    text: &[u8],
-    image: &[u8; IMAGE_BYTES],
-) {
-    match kind {
-        b's' => superblocks::show(out, numbers, image),
-        b'r' => reports::show(out, numbers, image),
-        b'o' => option_texts::show(out, text),
-        b'z' => records::show(out, numbers),
-        b'm' => mounts::show(out, numbers, text, image),
-        _ => printing::bad_line(out),
-    }
-}
-
-// Runs a vector on a copy of the image, and writes its line: its label, and what it answers.
-fn run_vector(
-    out: &mut Output,
-    kind: u8,
+// The first letter of its line says what a vector runs. One that has no words says that all numbers are its own.
+fn run_vector<W: Write>(
+    out: &mut W,
+    letter: u8,
     line: &[u8],
-    numbers: &[u64; PLACES],
-    last: usize,
+    numbers: &[u64],
     image: &[u8; IMAGE_BYTES],
-)
-    requires { last < 32 }
-{
-    let mut lent = *image;
-    image::put_words(out, &mut lent, numbers, words_from(kind), last);
-    printing::text(out, lines::between(line, b'|', b'['));
-    answer(out, kind, numbers, lines::between(line, b'[', b']'), &lent);
-    printing::text(out, b"\n");
-}
-
-// The first letter of a line says what it is. Empty lines and comments hold nothing to run.
-fn run_line(out: &mut Output, line: &[u8], image: &mut [u8; IMAGE_BYTES]) {
-    if line.len() == 0 {
-        return;
-    }
-    let kind = line[0];
-    if kind == b'#' {
-        return;
-    }
-    let mut numbers = [0u64; PLACES];
-    let last = lines::read_numbers(out, line, &mut numbers);
-    match kind {
-        b'i' => *image = [0u8; IMAGE_BYTES],
-        b'w' => image::put_words(out, image, &numbers, 1, last),
-        _ => run_vector(out, kind, line, &numbers, last, image),
+) -> io::Result<()> {
+    let vector = Vector {
+        line,
+        numbers,
+        image,
+    };
+    let text = lines::between(line, b'[', b']');
+    match letter {
+        b's' => vector.run(out, 1, |out, lent| superblocks::show(out, numbers, lent)),
+        b'r' => vector.run(out, 1, |out, lent| reports::show(out, numbers, lent)),
+        b'm' => vector.run(out, 6, |out, lent| mounts::show(out, numbers, text, lent)),
+        b'o' => vector.run(out, MOST, |out, _| option_texts::show(out, text)),
+        b'z' => vector.run(out, MOST, |out, _| records::show(out, numbers)),
+        _ => vector.run(out, MOST, |out, _| printing::bad_line(out)),
     }
 }
 
-fn run_lines(out: &mut Output, text: &[u8], image: &mut [u8; IMAGE_BYTES]) {
-    let mut at = 0;
-    while at < text.len() {
-        let end = lines::find(text, at, b'\n');
-        run_line(out, &text[at..end], image);
-        at = end + 1;
+// Empty lines and comments hold nothing to run.
+fn run_line<W: Write>(out: &mut W, line: &[u8], image: &mut [u8; IMAGE_BYTES]) -> io::Result<()> {
+    let Some(&letter) = line.first() else {
+        return Ok(());
+    };
+    if letter == b'#' {
+        return Ok(());
+    }
+    let read = lines::read_numbers(out, line)?;
+    let numbers = read.as_slice();
+    match letter {
+        b'i' => {
+            *image = [0u8; IMAGE_BYTES];
+            Ok(())
+        }
+        b'w' => image::put_words(out, image, numbers),
+        _ => run_vector(out, letter, line, numbers, image),
     }
 }
 
-// Reads until `bytes` are full or the input has ended. Answers how many came.
-fn read_full<R: Read>(input: &mut R, bytes: &mut [u8]) -> io::Result<usize>
-    ensures { IfOk result (λ count. count ≤ length bytes.new) }
-{
+fn run_lines<W: Write>(out: &mut W, text: &[u8]) -> io::Result<()> {
+    let mut image = [0u8; IMAGE_BYTES];
+    for line in text.split(|b| *b == b'\n') {
+        run_line(out, line, &mut image)?;
+    }
+    Ok(())
+}
+
+// Reads until `bytes` are full or the input has ended, and answers those that came: `read_exact` doesn't say how many, and `read_to_end` needs a heap.
+fn read_full<'a, R: Read>(input: &mut R, bytes: &'a mut [u8]) -> io::Result<&'a [u8]> {
     let mut count = 0;
     while count < bytes.len() {
         let n = input.read(&mut bytes[count..])?;
@@ -102,17 +104,11 @@ fn read_full<R: Read>(input: &mut R, bytes: &mut [u8]) -> io::Result<usize>
         }
         count += n;
     }
-    Ok(count)
+    Ok(&bytes[..count])
 }
 
 fn main(rt: HostRuntime) -> io::Result<()> {
-    let mut out = Output {
-        stdout: rt.stdout(),
-        failed: Ok(()),
-    };
-    let mut image = [0u8; IMAGE_BYTES];
-    let mut text = [0u8; 65536];
-    let count = read_full(&mut rt.stdin(), &mut text)?;
-    run_lines(&mut out, &text[..count], &mut image);
-    out.failed
+    let mut text = [0u8; TEXT_BYTES];
+    let text = read_full(&mut rt.stdin(), &mut text)?;
+    run_lines(&mut io::writer(&rt), text)
 }

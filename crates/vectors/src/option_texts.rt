@@ -1,17 +1,12 @@
 // A vector of an options text: 0, the policy's number and whether opens are by hand, or the refusal.
 use crate::printing;
-use crate::printing::Output;
-use options::Options;
+use std::io;
+use std::io::Write;
 use types::Refusal;
 
-pub fn show(out: &mut Output, text: &[u8]) {
+pub fn show(out: &mut impl Write, text: &[u8]) -> io::Result<()> {
     match options::read_options(text) {
-        Options::Good(asked) => {
-            let policy = asked.policy;
-            printing::number(out, 0);
-            printing::number(out, types::codes::policy_code(policy));
-            printing::number(out, asked.explicit as u64);
-        }
-        Options::Bad => printing::refusal(out, Refusal::BadOptions),
+        Some(asked) => printing::numbers(out, &[0, u64::from(asked.policy), asked.explicit as u64]),
+        None => printing::refusal(out, Refusal::BadOptions),
     }
 }

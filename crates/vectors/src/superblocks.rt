@@ -1,18 +1,19 @@
 // A vector of a super block: 0 and what its fields give, or the refusal.
-use crate::lines::PLACES;
-use crate::printing::Output;
-use crate::{image, printing};
+use crate::image::IMAGE_BYTES;
+use crate::{image, lines, printing};
+use std::io;
+use std::io::Write;
 use superblock::SuperBlock;
-use types::Verdict;
 
-fn print_uuid(out: &mut Output, bytes: [u8; 16]) {
-    printing::text(out, b" ");
-    for i in 0..16 {
-        printing::byte(out, bytes[i]);
+fn print_uuid(out: &mut impl Write, bytes: [u8; 16]) -> io::Result<()> {
+    write!(out, " ")?;
+    for b in bytes {
+        write!(out, "{b:02x}")?;
     }
+    Ok(())
 }
 
-fn print_fields(out: &mut Output, s: SuperBlock) {
+fn print_fields(out: &mut impl Write, s: SuperBlock) -> io::Result<()> {
     printing::numbers(
         out,
         &[
@@ -22,23 +23,21 @@ fn print_fields(out: &mut Output, s: SuperBlock) {
             s.group as u64,
             s.mode as u64,
         ],
-    );
+    )?;
     let bytes = s.uuid;
-    print_uuid(out, bytes);
+    print_uuid(out, bytes)
 }
 
-fn show_super(out: &mut Output, b: &[u8]) {
-    let read = superblock::read_superblock(b);
-    let check = read.check;
-    let fields = read.fields;
-    match check {
-        Verdict::Passed => print_fields(out, fields),
-        Verdict::Refused(x) => printing::refusal(out, x),
+fn show_super(out: &mut impl Write, b: &[u8]) -> io::Result<()> {
+    match superblock::read_superblock(b) {
+        Ok(fields) => print_fields(out, fields),
+        Err(x) => printing::refusal(out, x),
     }
 }
 
 // The number is how many bytes are lent.
-pub fn show(out: &mut Output, numbers: &[u64; PLACES], image: &[u8]) {
-    let superblock = image::part(out, image, 0, numbers[1]);
-    show_super(out, superblock);
+pub fn show(out: &mut impl Write, numbers: &[u64], image: &[u8; IMAGE_BYTES]) -> io::Result<()> {
+    let [bytes] = lines::first::<1>(numbers);
+    let superblock = image::first_bytes(out, image, bytes)?;
+    show_super(out, superblock)
 }

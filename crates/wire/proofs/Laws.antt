@@ -8,6 +8,8 @@ use native.Mathlib.Nat.{zero-add, suc-add, add-zero, mul_comm, mul_assoc, pow-su
 use native.Mathlib.Omega.{arith}
 use lib.ListN.{length, get_or, take, drop, take-append-drop}
 use lib.Seq.{drop-cons, drop-drop, drop_at, get_or-drop}
+use Rattle.std.specs.Int.{sum_through, byte_worth}
+use Rattle.std.proofs.lemmas.List.{get_or-take}
 use Rattle.wire.specs.Le.{le, little}
 
 -- a number of one byte is that byte
@@ -110,3 +112,25 @@ joined b part rest at n p r =
     ap (λ (l : List ℕ). l ++ rest) p
     ∙ ap (λ (l : List ℕ). take n (drop at b) ++ l) (r ∙ sym (drop-drop n at b))
     ∙ take-append-drop n (drop at b)
+
+-- WHAT `from_le_bytes` READS: the sum of the bytes, each by its weight
+
+sum_le : (n : ℕ) (b : List ℕ) → sum_through (λ i. byte_worth i (get_or b i 0)) n ≡ le (suc n) b 0
+unfolding le
+sum_le zero b = omega arith
+sum_le (suc n) b =
+    let top : 256 ^ suc n * le 1 b (0 + suc n) ≡ get_or b (suc n) 0 * 256 ^ suc n =
+    ap (λ (k : ℕ). 256 ^ suc n * k) (ap (le 1 b) (zero-add (suc n)) ∙ le-one b (suc n)) ∙ mul_comm (256 ^ suc n) (get_or b (suc n) 0) in
+    omega (arith, sum_le n b, le-add (suc n) 1 b 0, top, ap (λ (k : ℕ). le k b 0) (add-one (suc n)))
+
+le_take : (n m : ℕ) (b : List ℕ) (at : ℕ) → at + n ≤ m → le n (take m b) at ≡ le n b at
+unfolding le
+le_take zero m b at h = refl
+le_take (suc n) m b at h = rw (get_or-take m b at 0 (omega arith), le_take n m b (at + 1) (omega arith)) refl
+
+-- of n bytes from a place on: the number there
+pub le_part : (n : ℕ) (b : List ℕ) (at : ℕ) → le n (take n (drop at b)) 0 ≡ le n b at
+le_part n b at = le_take n n (drop at b) 0 (omega arith) ∙ le-drop n at b 0 ∙ ap (le n b) (add-zero at)
+
+pub sum_there : (n : ℕ) (b : List ℕ) (at : ℕ) → sum_through (λ i. byte_worth i (get_or (take (suc n) (drop at b)) i 0)) n ≡ le (suc n) b at
+sum_there n b at = sum_le n (take (suc n) (drop at b)) ∙ le_part (suc n) b at

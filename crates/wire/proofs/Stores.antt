@@ -1,38 +1,36 @@
--- Bytes that a loop puts one after the other: one is stored, and the others are still to be put.
+-- Bytes put over others: over a part of them, and over all of them.
 -- Assumes nothing.
-use mathlib.Core.Path.{◌≡◌, ap, sym, ◌∙◌}
-use mathlib.Core.List.{List, ◌∷◌, ◌++◌, append-nil}
-use Prim.Native.Nat.{ℕ, suc, ◌+◌, ◌-◌, ◌/◌, ◌%◌, ◌<◌}
-use native.Mathlib.Nat.{add-zero, add-suc}
-use native.Mathlib.Numerals.{add-one}
+use mathlib.Core.Path.{◌≡◌, refl, ap, sym, ◌∙◌}
+use mathlib.Core.List.{List, [], ◌∷◌, ◌++◌, append-nil, append_assoc}
+use Prim.Native.Nat.{ℕ, suc, ◌+◌, ◌-◌, ◌/◌, ◌%◌, ◌≤◌, ◌<◌}
 use native.Mathlib.Omega.{arith}
-use lib.ListN.{length, get_or, set, drop, replicate, drop_of_length-le}
-use lib.Seq.{sets, sets-eq, drop-cons}
+use lib.ListN.{length, set, take, drop, drop_of_length-le}
+use lib.Seq.{sets, sets-eq, drop-drop}
+use borrow.Rule.Slice.PartMut.{put_mid}
+use Rattle.std.proofs.lemmas.List.Edits.{length-between}
+use Rattle.std.proofs.lemmas.Grind.{take-set_at}
 use Rattle.wire.specs.Le.{little}
 
--- none is stored yet
-pub begun : (b left all : List ℕ) (at : ℕ) → left ≡ all → sets b (at + 0) left ≡ sets b at all
-begun b left all at e = ap (λ (k : ℕ). sets b k left) (add-zero at) ∙ ap (sets b at) e
+-- a part of n bytes, as a range gives it
+pub part_size : (b : List ℕ) (at n : ℕ) → at + n ≤ length b → length (take (at + n - at) (drop at b)) ≡ n
+part_size b at n h = omega (arith, length-between b at (at + n))
 
--- byte i is the first of those that are left
-pub stored : (b left rest : List ℕ) (at i v : ℕ) → left ≡ v ∷ rest → sets (set b (at + i) v) (at + (i + 1)) rest ≡ sets b (at + i) left
-stored b left rest at i v e =
-    ap (λ (k : ℕ). sets (set b (at + i) v) k rest) (ap (λ (k : ℕ). at + k) (add-one i) ∙ add-suc at i) ∙ sym (ap (sets b (at + i)) e)
+-- bytes written over a part of as many
+pub put_part : (b xs : List ℕ) (at k : ℕ) → length xs ≡ k → at + k ≤ length b → put_mid at k b xs ≡ sets b at xs
+put_part b xs at k e h =
+    ap (λ (l : List ℕ). take at b ++ (xs ++ l)) (drop-drop k at b ∙ ap (λ (n : ℕ). drop (at + n) b) (sym e))
+    ∙ sym (sets-eq xs b at (omega arith) ∙ append_assoc (take at b) xs (drop (at + length xs) b))
 
--- WHAT IS LEFT, before and after one of n
-
-one_less : (n i : ℕ) → i < n → n - i ≡ suc (n - (i + 1))
-one_less n i h = omega arith
-
-pub number_left : (n i x : ℕ) → i < n → little (n - i) x ≡ x % 256 ∷ little (n - (i + 1)) (x / 256)
+-- a number's next byte, where i of n were put
+pub byte_put : (n i x : ℕ) (bytes : List ℕ) → i < n → length bytes ≡ n
+    → take (i + 1) (set bytes i (x % 256)) ++ little (n - (i + 1)) (x / 256) ≡ take i bytes ++ little (n - i) x
 unfolding little
-number_left n i x h = ap (λ (k : ℕ). little k x) (one_less n i h)
-
-pub bytes_left : (from : List ℕ) (i : ℕ) → i < length from → drop i from ≡ get_or from i 0 ∷ drop (i + 1) from
-bytes_left from i h = rw (add-one i) (drop-cons from i 0 h)
-
-pub zeros_left : (n i : ℕ) → i < n → replicate {A = ℕ} (n - i) 0 ≡ 0 ∷ replicate (n - (i + 1)) 0
-zeros_left n i h = ap (λ (k : ℕ). replicate {A = ℕ} k 0) (one_less n i h)
+byte_put n i x bytes h e =
+    let left : n - i ≡ suc (n - (i + 1)) = omega arith in
+    let first : little (n - i) x ≡ x % 256 ∷ little (n - (i + 1)) (x / 256) = ap (λ (k : ℕ). little k x) left in
+    ap (λ (l : List ℕ). l ++ little (n - (i + 1)) (x / 256)) (take-set_at bytes i (i + 1) (x % 256) refl (omega arith))
+    ∙ append_assoc (take i bytes) (x % 256 ∷ []) (little (n - (i + 1)) (x / 256))
+    ∙ sym (ap (λ (l : List ℕ). take i bytes ++ l) first)
 
 -- bytes that are as many as there is room for are all that is there then
 pub put_all : (b xs : List ℕ) → length xs ≡ length b → sets b 0 xs ≡ xs

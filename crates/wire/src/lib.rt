@@ -2,16 +2,9 @@
 // numbers, bytes and zeros put into lent bytes from a place on.
 #![tactic(auto)]
 
-ghost use Rattle.std.specs.Prelude.{◌≡◌, ◌+◌, ◌%◌, ◌≤◌, ◌<◌, length, get_or, replicate};
+ghost use Rattle.std.specs.Prelude.{◌≡◌, ◌+◌, ◌%◌, ◌≤◌, ◌<◌, length, get_or, take, drop, replicate};
 ghost use Rattle.std.proofs.lemmas.List.Edits.{sets};
 ghost use Rattle.wire.specs.Le.{le, little};
-
-// What a high half weighs: the values of one byte, of two and of four.
-const ONE_BYTE: u16 = 256;
-
-const TWO_BYTES: u32 = 65536;
-
-const FOUR_BYTES: u64 = 4294967296;
 
 // The byte at `at`.
 pub fn u8_at(b: &[u8], at: usize) -> u8
@@ -21,14 +14,23 @@ pub fn u8_at(b: &[u8], at: usize) -> u8
     b[at]
 }
 
+// The `N` bytes at `at`.
+fn bytes_at<const N: usize>(b: &[u8], at: usize) -> [u8; N]
+    requires { at + N ≤ length b.now }
+    ensures { result ≡ take N (drop at b.now) }
+{
+    let Some(bytes) = b[at..at + N].as_array() else {
+        unreachable!();
+    };
+    *bytes
+}
+
 // The number of the two bytes at `at`.
 pub fn u16_at(b: &[u8], at: usize) -> u16
     requires { at + 2 ≤ length b.now }
     ensures { result ≡ le 2 b.now at }
 {
-    let low = u8_at(b, at);
-    let high = u8_at(b, at + 1);
-    low as u16 + ONE_BYTE * (high as u16)
+    u16::from_le_bytes(bytes_at(b, at))
 }
 
 // The number of the four bytes at `at`.
@@ -36,9 +38,7 @@ pub fn u32_at(b: &[u8], at: usize) -> u32
     requires { at + 4 ≤ length b.now }
     ensures { result ≡ le 4 b.now at }
 {
-    let low = u16_at(b, at);
-    let high = u16_at(b, at + 2);
-    low as u32 + TWO_BYTES * (high as u32)
+    u32::from_le_bytes(bytes_at(b, at))
 }
 
 // The number of the eight bytes at `at`.
@@ -46,15 +46,7 @@ pub fn u64_at(b: &[u8], at: usize) -> u64
     requires { at + 8 ≤ length b.now }
     ensures { result ≡ le 8 b.now at }
 {
-    let low = u32_at(b, at);
-    let high = u32_at(b, at + 4);
-    low as u64 + FOUR_BYTES * (high as u64)
-}
-
-fn low_byte(x: u64) -> u8
-    ensures { result ≡ x % 256 }
-{
-    (x % 256) as u8
+    u64::from_le_bytes(bytes_at(b, at))
 }
 
 // Puts `n` bytes of a number at `at`, the lowest first.
@@ -63,9 +55,9 @@ pub fn put_number(b: &mut [u8], at: usize, n: usize, x: u64)
     ensures { b.new ≡ sets b.old at (little n x) }
 {
     let mut rest = x;
-    for i in 0..n {
-        b[at + i] = low_byte(rest);
-        rest = rest / 256;
+    for byte in &mut b[at..at + n] {
+        *byte = (rest % 256) as u8;
+        rest /= 256;
     }
 }
 
@@ -74,9 +66,7 @@ pub fn put_bytes(b: &mut [u8], at: usize, from: &[u8])
     requires { at + length from.now ≤ length b.old }
     ensures { b.new ≡ sets b.old at from.now }
 {
-    for i in 0..from.len() {
-        b[at + i] = from[i];
-    }
+    b[at..at + from.len()].copy_from_slice(from);
 }
 
 // Puts `n` zeros at `at`.
@@ -84,7 +74,5 @@ pub fn put_zeros(b: &mut [u8], at: usize, n: usize)
     requires { at + n ≤ length b.old }
     ensures { b.new ≡ sets b.old at (replicate n 0) }
 {
-    for i in 0..n {
-        b[at + i] = 0;
-    }
+    b[at..at + n].fill(0);
 }

@@ -3,9 +3,9 @@
 -- Assumes nothing.
 use mathlib.Core.Path.{◌≡◌, refl, ap, ◌∙◌, sym}
 use mathlib.Core.List.{List, [], ◌∷◌, ◌++◌}
-use mathlib.Core.Bool.{Bool, true, false, not, ◌&&◌, false≢true}
+use mathlib.Core.Bool.{Bool, true, false, ◌&&◌, false≢true}
 use Prim.Native.Nat.{ℕ}
-use borrow.Author.Tests.{not-true}
+use Rattle.std.specs.Prelude.{Option, Some, None}
 use Rattle.types.proofs.Tests.{and_left, and_right}
 use Rattle.types.specs.declared.ZoneFault.{ZoneFault}
 use Rattle.zones.specs.declared.Zone.{Zone}
@@ -19,6 +19,9 @@ unfolding fault_numbers
 zone_numbers unit e z = refl
 
 -- THE FIRST
+
+none_some : {x : ZoneFault} → ◌≡◌ {A = Option ZoneFault} None (Some x) → ⊥
+none_some {x} e = false≢true (sym (ap is_faultless e))
 
 -- tests that are passed find nothing
 pub passed_on : (a b : List ZoneTest) → all_passed a ≡ true → first_fault (a ++ b) ≡ first_fault b
@@ -38,21 +41,26 @@ found_first (t ∷ ts) b e = by t.passed (found_first ts b) e
     by true rest e = rest e
     by false rest e = refl
 
+-- one that is not none
+pub some_fault : (o : Option ZoneFault) → is_faultless o ≡ false → (x : ZoneFault) × (o ≡ Some x)
+some_fault None e = absurd (false≢true (sym e))
+some_fault (Some x) e = (x, refl)
+
 -- A FAULT IS THE FIRST IN ORDER: no test before its own fails, and its own does
-pub first_fault_lem : (ts : List ZoneTest) → is_faultless (first_fault ts) ≡ false → First (first_fault ts) ts
+pub first_fault_lem : (x : ZoneFault) (ts : List ZoneTest) → first_fault ts ≡ Some x → First x ts
 unfolding first_fault fault_unless all_passed
-first_fault_lem [] e = absurd (false≢true (sym e))
-first_fault_lem (t ∷ ts) e = by t.passed t.fault (first_fault_lem ts) e
+first_fault_lem x [] e = absurd (none_some e)
+first_fault_lem x (t ∷ ts) e = by t.passed t.fault (first_fault_lem x ts) e
   where
-    by : (p : Bool) (x : ZoneFault) → (is_faultless (first_fault ts) ≡ false → First (first_fault ts) ts)
-        → is_faultless (fault_unless p x (first_fault ts)) ≡ false → First (fault_unless p x (first_fault ts)) (test p x ∷ ts)
-    by true x rest e =
+    by : (p : Bool) (y : ZoneFault) → (first_fault ts ≡ Some x → First x ts)
+        → fault_unless p y (first_fault ts) ≡ Some x → First x (test p y ∷ ts)
+    by true y rest e =
         let f = rest e in
-        record { before = test true x ∷ f.before; after = f.after; order = ap (λ l. test true x ∷ l) f.order; passed = f.passed }
-    by false x rest e = record { before = []; after = ts; order = refl; passed = refl }
+        record { before = test true y ∷ f.before; after = f.after; order = ap (λ l. test true y ∷ l) f.order; passed = f.passed }
+    by false y rest e = record { before = []; after = ts; order = ap (λ u. test false u ∷ ts) cc; passed = refl }
 
 -- and the first in order is the fault
-pub first_found : (x : ZoneFault) (ts : List ZoneTest) → First x ts → first_fault ts ≡ x
+pub first_found : (x : ZoneFault) (ts : List ZoneTest) → First x ts → first_fault ts ≡ Some x
 unfolding first_fault fault_unless
 first_found x ts f = ap first_fault f.order ∙ passed_on f.before (test false x ∷ f.after) f.passed
 
@@ -68,20 +76,15 @@ both_passed (t ∷ ts) b = by t.passed (both_passed ts b)
 
 -- NO FAULT
 
--- each test has a fault that is told from none
-unfoldable pub named : List ZoneTest → Bool
-named [] = true
-named (t ∷ ts) = not (is_faultless t.fault) && named ts
-
 -- there is none exactly if all are passed
-pub none_fails : (ts : List ZoneTest) → named ts ≡ true → is_faultless (first_fault ts) ≡ all_passed ts
-unfolding first_fault fault_unless all_passed named
-none_fails [] h = refl
-none_fails (t ∷ ts) h = by t.passed (none_fails ts (and_right (not (is_faultless t.fault)) (named ts) h))
+pub none_fails : (ts : List ZoneTest) → is_faultless (first_fault ts) ≡ all_passed ts
+unfolding first_fault fault_unless all_passed
+none_fails [] = refl
+none_fails (t ∷ ts) = by t.passed (none_fails ts)
   where
     by : (p : Bool) → is_faultless (first_fault ts) ≡ all_passed ts → is_faultless (fault_unless p t.fault (first_fault ts)) ≡ p && all_passed ts
     by true rest = rest
-    by false rest = not-true (is_faultless t.fault) (and_left (not (is_faultless t.fault)) (named ts) h)
+    by false rest = refl
 
 -- GOOD INPUT is what has no fault
 
@@ -105,13 +108,13 @@ unfolding all_passed good_record passed_after
 record_passed unit z = passed_after_lem true (record_tests unit z)
 
 pub record_faultless : (unit : ℕ) (z : Zone) → is_faultless (record_fault unit z) ≡ good_record unit z
-unfolding record_fault named
-record_faultless unit z = none_fails (record_tests unit z) refl ∙ record_passed unit z
+unfolding record_fault
+record_faultless unit z = none_fails (record_tests unit z) ∙ record_passed unit z
 
 pub zone_faultless : (unit e : ℕ) (z : Zone) → is_faultless (zone_fault unit e z) ≡ good_zone unit e z
-unfolding zone_fault good_zone all_passed named
-zone_faultless unit e z = none_fails (zone_tests unit e z) refl ∙ ap (λ g. starts_at e z && g) (record_passed unit z)
+unfolding zone_fault good_zone all_passed
+zone_faultless unit e z = none_fails (zone_tests unit e z) ∙ ap (λ g. starts_at e z && g) (record_passed unit z)
 
 -- what is told by the code's test of a fault that was found, where no fault means `good`
-pub tested : {x y : ZoneFault} {good answer t : Bool} → is_faultless y ≡ good → x ≡ y → answer ≡ is_faultless x → answer ≡ t → good ≡ t
+pub tested : {x y : Option ZoneFault} {good answer t : Bool} → is_faultless y ≡ good → x ≡ y → answer ≡ is_faultless x → answer ≡ t → good ≡ t
 tested law found made so = sym law ∙ ap is_faultless (sym found) ∙ sym made ∙ so

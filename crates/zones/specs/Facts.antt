@@ -1,5 +1,5 @@
 -- What a good zone tells: functions that are called only after these tests ask for it. And what a fault tells.
-use Rattle.std.specs.Prelude.{ℕ, ◌+◌, ◌^◌, ◌≤◌, ◌≡◌, Bool, true, false, ◌&&◌, List, [], ◌∷◌, ◌++◌}
+use Rattle.std.specs.Prelude.{ℕ, ◌+◌, ◌^◌, ◌≤◌, ◌≡◌, Bool, true, false, ◌&&◌, List, [], ◌∷◌, ◌++◌, Some}
 use Rattle.types.specs.declared.ZoneFault.{ZoneFault}
 use Rattle.types.specs.Codes.{fault_code}
 use Rattle.zones.specs.declared.Zone.{Zone}
@@ -38,4 +38,4 @@ pub record First (x : ZoneFault) (ts : List ZoneTest) : Type 0 where
 -- the numbers of the faults that these tests can find
 unfoldable pub fault_numbers : List ZoneTest → List ℕ
 fault_numbers [] = []
-fault_numbers (t ∷ ts) = fault_code t.fault ∷ fault_numbers ts
+fault_numbers (t ∷ ts) = fault_code (Some t.fault) ∷ fault_numbers ts

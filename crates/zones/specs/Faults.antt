@@ -1,10 +1,9 @@
 -- Which test of good input a zone fails first. 02: "A bad zone's refusal carries a reason, the first of: 1 start, 2 length, 3 capacity (also a
 -- conventional one's), 4 end, 5 type, 6 condition, 7 pointer." A zone is good input exactly if it has no fault (the laws `record_faultless` and
 -- `zone_faultless`), and a fault is the first in order: no test before it fails, and its own does (the law `first_fault_lem`).
-use Rattle.std.specs.Prelude.{ℕ, List, [], ◌∷◌, Bool, true, false, eqb}
+use Rattle.std.specs.Prelude.{ℕ, List, [], ◌∷◌, Bool, true, false, Option, Some, None}
 use Rattle.types.specs.declared.ZoneFault.{ZoneFault}
 use Rattle.types.specs.declared.ZoneFault.TheVariants as fault
-use Rattle.types.specs.Codes.{fault_code}
 use Rattle.zones.specs.declared.Zone.{Zone}
 use Rattle.zones.specs.Zone.{starts_at, good_length, good_capacity, good_end, good_type, good_condition, good_pointer}
 
@@ -17,13 +16,13 @@ abbrev pub test : Bool → ZoneFault → ZoneTest
 test passed x = record { passed = passed; fault = x }
 
 -- one test: what the rest finds where it is passed, else its fault
-unfoldable pub fault_unless : Bool → ZoneFault → ZoneFault → ZoneFault
+unfoldable pub fault_unless : Bool → ZoneFault → Option ZoneFault → Option ZoneFault
 fault_unless true x rest = rest
-fault_unless false x rest = x
+fault_unless false x rest = Some x
 
 -- "the first of": what the first test that fails finds, in the order of the list
-unfoldable pub first_fault : List ZoneTest → ZoneFault
-first_fault [] = fault.Nothing
+unfoldable pub first_fault : List ZoneTest → Option ZoneFault
+first_fault [] = None
 first_fault (t ∷ ts) = fault_unless t.passed t.fault (first_fault ts)
 
 -- of a record, wherever its zone starts
@@ -37,15 +36,16 @@ record_tests unit z =
     ∷ test (good_pointer unit z) fault.Pointer
     ∷ []
 
-unfoldable pub record_fault : ℕ → Zone → ZoneFault
+unfoldable pub record_fault : ℕ → Zone → Option ZoneFault
 record_fault unit z = first_fault (record_tests unit z)
 
 -- of a zone of a report, where the one before it ended at `expected`
 abbrev pub zone_tests : ℕ → ℕ → Zone → List ZoneTest
 zone_tests unit expected z = test (starts_at expected z) fault.Start ∷ record_tests unit z
 
-unfoldable pub zone_fault : ℕ → ℕ → Zone → ZoneFault
+unfoldable pub zone_fault : ℕ → ℕ → Zone → Option ZoneFault
 zone_fault unit expected z = first_fault (zone_tests unit expected z)
 
-abbrev pub is_faultless : ZoneFault → Bool
-is_faultless x = eqb (fault_code x) 0
+abbrev pub is_faultless : Option ZoneFault → Bool
+is_faultless None = true
+is_faultless (Some x) = false

@@ -4,13 +4,14 @@
 ghost use Rattle.std.specs.Prelude.{◌≡◌, true, cond, ◌+◌, ◌≤◌, ◌<◌, length};
 ghost use Rattle.types.specs.Blocks.{on_block, whole_blocks};
 ghost use Rattle.zones.specs.Zone.{zone_bytes, zone_at, conventional, sequential, condition_of, healthy, full, written_size, says_size, starts_at, good_length, good_capacity, good_end, good_type, conventional_condition, sequential_condition, good_condition, pointed, points_well, good_pointer};
-ghost use Rattle.zones.specs.Faults.{fault_unless, record_fault, zone_fault, is_faultless};
+ghost use Rattle.zones.specs.Faults.{record_fault, zone_fault, is_faultless};
 ghost use Rattle.zones.specs.Facts.{Bounded};
 
 use types::units::{LARGE_BLOCK, SECTOR_BYTES};
 use types::{Condition, ZoneFault};
 
 // A zone record. Start, length, write pointer and capacity in sectors of 512 bytes; type and condition are the record's bytes.
+// Type and condition stay bytes: `zone_at` of the specs gives any, and the tests of both are made on any.
 #[derive(Clone, Copy)]
 pub struct Zone {
     pub start: u64,
@@ -57,6 +58,7 @@ const OFFLINE: u8 = 15;
 // The large block in sectors.
 const LARGE_UNIT: u64 = LARGE_BLOCK / SECTOR_BYTES;
 
+// The flag stays beside the value: one `if` is as plain as an option that is made to be taken apart.
 fn capacity_of(given: bool, stated: u64, length: u64) -> u64
     ensures { result ≡ cond given stated length }
 {
@@ -68,20 +70,15 @@ pub fn zone_at(b: &[u8], at: usize, given: bool) -> Zone
     requires { at + zone_bytes ≤ length b.now }
     ensures { result ≡ zone_at given b.now at }
 {
-    let start = wire::u64_at(b, at);
     let length = wire::u64_at(b, at + LENGTH_AT);
-    let pointer = wire::u64_at(b, at + POINTER_AT);
-    let kind = wire::u8_at(b, at + TYPE_AT);
-    let condition = wire::u8_at(b, at + CONDITION_AT);
     let stated = wire::u64_at(b, at + CAPACITY_AT);
-    let capacity = capacity_of(given, stated, length);
     Zone {
-        start,
+        start: wire::u64_at(b, at),
         length,
-        pointer,
-        kind,
-        condition,
-        capacity,
+        pointer: wire::u64_at(b, at + POINTER_AT),
+        kind: wire::u8_at(b, at + TYPE_AT),
+        condition: wire::u8_at(b, at + CONDITION_AT),
+        capacity: capacity_of(given, stated, length),
     }
 }
 
@@ -100,19 +97,17 @@ pub fn is_sequential(z: Zone) -> bool
 pub fn condition_of(z: Zone) -> Condition
     ensures { result ≡ condition_of z }
 {
-    if z.condition == READ_ONLY {
-        return Condition::ReadOnly;
+    match z.condition {
+        READ_ONLY => Condition::ReadOnly,
+        OFFLINE => Condition::Offline,
+        _ => Condition::Healthy,
     }
-    if z.condition == OFFLINE {
-        return Condition::Offline;
-    }
-    Condition::Healthy
 }
 
 pub fn is_healthy(z: Zone) -> bool
     ensures { result ≡ healthy z }
 {
-    types::predicates::is_healthy(condition_of(z))
+    condition_of(z) == Condition::Healthy
 }
 
 fn is_full(z: Zone) -> bool
@@ -134,6 +129,7 @@ pub fn written_size(z: Zone) -> u64
 }
 
 // On a block of so many sectors. With the large block written out, its numbers aren't divided by one that only the run knows.
+// It stays beside `types::units::on_block`: a record is tested by any unit above 0 (`record_fault` of the specs).
 fn on_unit(n: u64, unit: u64) -> bool
     requires { 0 < unit }
     ensures { result ≡ on_block unit n }
@@ -149,8 +145,7 @@ fn whole_blocks(n: u64, unit: u64) -> bool
     requires { 0 < unit }
     ensures { result ≡ whole_blocks unit n }
 {
-    let whole = on_unit(n, unit);
-    (0 < n) & whole
+    (0 < n) & on_unit(n, unit)
 }
 
 fn starts_at(z: Zone, expected: u64) -> bool
@@ -170,9 +165,9 @@ fn good_capacity(z: Zone, unit: u64) -> bool
     requires { 0 < unit }
     ensures { result ≡ good_capacity unit z }
 {
-    let whole = whole_blocks(z.capacity, unit);
-    let full = is_conventional(z);
-    whole & (z.capacity <= z.length) & (!full | (z.capacity == z.length))
+    whole_blocks(z.capacity, unit)
+        & (z.capacity <= z.length)
+        & (!is_conventional(z) | (z.capacity == z.length))
 }
 
 fn good_end(z: Zone) -> bool
@@ -190,13 +185,13 @@ fn good_type(z: Zone) -> bool
 fn conventional_condition(c: u8) -> bool
     ensures { result ≡ conventional_condition c }
 {
-    (c == NO_POINTER) | (c == READ_ONLY) | (c == OFFLINE)
+    matches!(c, NO_POINTER | READ_ONLY | OFFLINE)
 }
 
 fn sequential_condition(c: u8) -> bool
     ensures { result ≡ sequential_condition c }
 {
-    ((EMPTY <= c) & (c <= CLOSED)) | (c == READ_ONLY) | (c == FULL) | (c == OFFLINE)
+    matches!(c, EMPTY..=CLOSED | READ_ONLY | FULL | OFFLINE)
 }
 
 fn good_condition(z: Zone) -> bool
@@ -213,9 +208,7 @@ fn good_condition(z: Zone) -> bool
 fn is_pointed(z: Zone) -> bool
     ensures { result ≡ pointed z }
 {
-    let sequential = is_sequential(z);
-    let healthy = is_healthy(z);
-    sequential & healthy & !is_full(z)
+    is_sequential(z) & is_healthy(z) & !is_full(z)
 }
 
 // Compared by its distance from the start, so that no sum wraps.
@@ -224,9 +217,7 @@ fn points_well(z: Zone, unit: u64) -> bool
     ensures { result ≡ points_well unit z }
 {
     if z.start <= z.pointer {
-        let written = z.pointer - z.start;
-        let whole = on_unit(z.pointer, unit);
-        (written <= z.capacity) & whole
+        (z.pointer - z.start <= z.capacity) & on_unit(z.pointer, unit)
     } else {
         false
     }
@@ -236,46 +227,50 @@ fn good_pointer(z: Zone, unit: u64) -> bool
     requires { 0 < unit }
     ensures { result ≡ good_pointer unit z }
 {
-    let looked = is_pointed(z);
-    let well = points_well(z, unit);
-    !looked | well
-}
-
-// One test: what the rest finds where it is passed, else its fault.
-pub fn fault_unless(passed: bool, fault: ZoneFault, rest: ZoneFault) -> ZoneFault
-    ensures { result ≡ fault_unless passed fault rest }
-{
-    if passed { rest } else { fault }
+    !is_pointed(z) | points_well(z, unit)
 }
 
 // The first fault of a record, wherever its zone starts. `unit` is the block in sectors.
-pub fn record_fault(z: Zone, unit: u64) -> ZoneFault
+#[tactic(auto, unfolding(crate::specs::Faults::record_fault, crate::specs::Faults::first_fault, crate::specs::Faults::fault_unless))]
+pub fn record_fault(z: Zone, unit: u64) -> Option<ZoneFault>
     requires { 0 < unit }
     ensures { result ≡ record_fault unit z }
 {
-    let pointer = fault_unless(
-        good_pointer(z, unit),
-        ZoneFault::Pointer,
-        ZoneFault::Nothing,
-    );
-    let condition = fault_unless(good_condition(z), ZoneFault::Condition, pointer);
-    let kind = fault_unless(good_type(z), ZoneFault::Type, condition);
-    let end = fault_unless(good_end(z), ZoneFault::End, kind);
-    let capacity = fault_unless(good_capacity(z, unit), ZoneFault::Capacity, end);
-    fault_unless(good_length(z, unit), ZoneFault::Length, capacity)
+    if !good_length(z, unit) {
+        return Some(ZoneFault::Length);
+    }
+    if !good_capacity(z, unit) {
+        return Some(ZoneFault::Capacity);
+    }
+    if !good_end(z) {
+        return Some(ZoneFault::End);
+    }
+    if !good_type(z) {
+        return Some(ZoneFault::Type);
+    }
+    if !good_condition(z) {
+        return Some(ZoneFault::Condition);
+    }
+    if !good_pointer(z, unit) {
+        return Some(ZoneFault::Pointer);
+    }
+    None
 }
 
 // The first fault of a zone of a report, where the one before it ended at `expected`.
-pub fn zone_fault(z: Zone, expected: u64, unit: u64) -> ZoneFault
+#[tactic(auto, unfolding(crate::specs::Faults::zone_fault, crate::specs::Faults::record_fault, crate::specs::Faults::first_fault, crate::specs::Faults::fault_unless))]
+pub fn zone_fault(z: Zone, expected: u64, unit: u64) -> Option<ZoneFault>
     requires { 0 < unit }
     ensures { result ≡ zone_fault unit expected z }
 {
-    let fault = record_fault(z, unit);
-    fault_unless(starts_at(z, expected), ZoneFault::Start, fault)
+    if !starts_at(z, expected) {
+        return Some(ZoneFault::Start);
+    }
+    record_fault(z, unit)
 }
 
-pub fn is_faultless(fault: ZoneFault) -> bool
+pub fn is_faultless(fault: Option<ZoneFault>) -> bool
     ensures { result ≡ is_faultless fault }
 {
-    types::codes::fault_code(fault) == 0
+    fault.is_none()
 }

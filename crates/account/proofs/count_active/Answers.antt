@@ -7,23 +7,20 @@ use Rattle.account.proofs.count_active.Goals as goal
 
 pub loop-i-init : goal.loop-i-init
 unfolding count_in
-loop-i-init c = (omega arith, refl)
-
-pub row_at-requires : goal.row_at-requires
-row_at-requires c = let a = c.args in omega (arith, c.requires.1, c.loop-i-test.true)
+loop-i-init c = refl
 
 pub overflow_add-count : goal.overflow_add-count
 overflow_add-count c = let l = c.loop-i in
     let a = c.args in
-    omega (arith, l.invariant.1, count_most (is_active a.explicit) a.t.now l.i, c.active_flag-count.ensures.upper_bound, c.loop-i-test.true, c.requires.0)
+    record { fits = omega (arith, l.invariant, count_most (is_active a.explicit) a.t.now l.i, c.active_flag-count.ensures.upper_bound, c.loop-i-test.true, c.requires.0) }
 
 pub loop-i-preserved : goal.loop-i-preserved
 loop-i-preserved c = let l = c.loop-i in
     let a = c.args in
-    (omega arith, rw (l.invariant.1, c.active_flag-count.ensures.value, c.row_at.ensures) (count_next (is_active a.explicit) a.t.now l.i))
+    rw (l.invariant, c.active_flag-count.ensures.value, c.row_at.ensures) (count_next (is_active a.explicit) a.t.now l.i)
 
 pub returns : goal.returns
 returns c = let l = c.loop-i in
     let a = c.args in
-    let e : l.i ≡ a.files = omega (arith, l.invariant.0, c.loop-i-test.false) in
-    rw (← e) l.invariant.1
+    let e : l.i ≡ a.files = omega arith in
+    rw (← e) l.invariant

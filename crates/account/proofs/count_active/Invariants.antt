@@ -1,11 +1,7 @@
 use mathlib.Core.Path.{◌≡◌}
-use Prim.Native.Nat.{◌≤◌, ◌-◌}
 use Rattle.account.specs.Account.{is_active}
 use Rattle.account.specs.Counts.{count_in}
 use Rattle.account.proofs.count_active.Given as goal
 
 abbrev pub invariant-loop-i : goal.invariant-loop-i
-invariant-loop-i l = (l.i ≤ l.files) × (l.count ≡ count_in (is_active l.explicit) l.t l.i)
-
-abbrev pub decreases-loop-i : goal.decreases-loop-i
-decreases-loop-i l = l.files - l.i
+invariant-loop-i l = l.count ≡ count_in (is_active l.explicit) l.t l.i

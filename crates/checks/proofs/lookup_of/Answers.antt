@@ -1,4 +1,3 @@
-use Rattle.checks.specs.Checks.{lookup_of}
 use Rattle.types.specs.declared.FileKind.TheVariants.{Conventional, Sequential}
 use Rattle.checks.proofs.Laws.{counts-lent}
 use Rattle.checks.proofs.lookup_of.Goals as goal
@@ -8,11 +7,3 @@ row_in-requires c = counts-lent c.args.m _ _ c.requires Conventional
 
 pub row_in-requires-in-Sequential : goal.row_in-requires-in-Sequential
 row_in-requires-in-Sequential c = counts-lent c.args.m _ _ c.requires Sequential
-
-pub returns-in-Conventional : goal.returns-in-Conventional
-unfolding lookup_of
-returns-in-Conventional c = simp (c.in-Conventional.is, c.row_in.ensures)
-
-pub returns-in-Sequential : goal.returns-in-Sequential
-unfolding lookup_of
-returns-in-Sequential c = simp (c.in-Sequential.is, c.row_in-in-Sequential.ensures)

@@ -1,26 +1,18 @@
-use mathlib.Core.Path.{◌≡◌, ap, sym, ◌∙◌}
-use Rattle.types.specs.declared.Verdict.TheVariants as verdict
-use Rattle.superblock.specs.declared.SuperRead.{SuperRead}
-use Rattle.superblock.specs.SuperBlock.{super_check}
-use Rattle.superblock.proofs.Told.{super_told, check_read}
+use Rattle.std.proofs.lemmas.Result.{err_from_is_err_and}
+use mathlib.Core.Path.{◌∙◌, sym}
+use Rattle.superblock.proofs.Told.{super_told, read_passed, read_refused}
 use Rattle.format.specs.Format.{fields_read}
 use Rattle.format.proofs.read_fields.Goals as goal
 
+pub returns-in_err-read_superblock : goal.returns-in_err-read_superblock
+unfolding fields_read
+returns-in_err-read_superblock c =
+    let p = err_from_is_err_and c.from_residual.result c.from_residual.ensures.1 in
+    rw (p.1, p.2, read_refused _ (sym c.read_superblock.ensures ∙ c.in_err-read_superblock.was))
+
 pub fields_of-requires : goal.fields_of-requires
-fields_of-requires c =
-    let b = c.args.b.now in
-    (super_told b (sym (ap (λ (r : SuperRead). r.check) c.read_superblock-read.ensures ∙ check_read b) ∙ c.in-Passed.is)).size
+fields_of-requires c = (super_told c.args.b.now (read_passed _ (sym c.read_superblock.ensures ∙ c.in_ok-read_superblock.was))).size
 
-pub returns-in-Passed : goal.returns-in-Passed
+pub returns : goal.returns
 unfolding fields_read
-returns-in-Passed c =
-    let b = c.args.b.now in
-    let passed : super_check b ≡ verdict.Passed = sym (ap (λ (r : SuperRead). r.check) c.read_superblock-read.ensures ∙ check_read b) ∙ c.in-Passed.is in
-    rw (passed, c.fields_of.ensures)
-
-pub returns-in-Refused : goal.returns-in-Refused
-unfolding fields_read
-returns-in-Refused c =
-    let b = c.args.b.now in
-    let refused : super_check b ≡ verdict.Refused _ = sym (ap (λ (r : SuperRead). r.check) c.read_superblock-read.ensures ∙ check_read b) ∙ c.in-Refused.is in
-    rw refused (c.refused.ensures b)
+returns c = rw (c.fields_of.ensures, read_passed _ (sym c.read_superblock.ensures ∙ c.in_ok-read_superblock.was))

@@ -27,8 +27,8 @@ returns c =
     c.read_options-parsed.ensures
     c.rows_lent-cnvs.ensures
     c.rows_lent-seqs.ensures
-    c.mount_answer-answer.ensures
-    c.fill_tables.ensures.cnvs
+    (rw (c.found_in-found.ensures, c.fields_in-fields.ensures) at c.mount_answer-answer.ensures)
+    (rw c.fields_in-fields.ensures at c.fill_tables.ensures.cnvs)
     c.fill_tables.ensures.seqs
-    c.mount_of-mount.ensures in
+    (rw c.fields_in-fields.ensures at c.mount_of-mount.ensures) in
     record { answer = o.0; mount = o.1; cnvs = o.2; seqs = o.3 }

@@ -20,5 +20,5 @@ pub returns : goal.returns
 unfolding mount_words
 returns c =
     let a = c.args in
-    stored a.w.now a.m c.put_volume.ensures c.put_mark.ensures c.flag_code-explicit.ensures
+    stored a.w.now a.m c.put_volume.ensures c.put_mark.ensures c.flag_code.ensures
     ∙ put_front a.w.now (mount_words a.m) (omega arith)

@@ -1,14 +1,16 @@
-use Rattle.names.proofs.Naming.{name_short, name_is, name_not_kind, name_not_number}
+use mathlib.Core.Path.{◌∙◌, ap, sym}
+use lib.ListN.{take, drop}
+use Rattle.names.proofs.Naming.{name_short, name_is, name_prefix, name_digits}
 use Rattle.names.proofs.name_read.Goals as goal
 
-pub returns-then-name-lt-PREFIX_BYTES : goal.returns-then-name-lt-PREFIX_BYTES
-returns-then-name-lt-PREFIX_BYTES c = λ k n s. name_short c.args.name.now c.if-name-lt-PREFIX_BYTES.true k n
+pub returns-in_err-prefix : goal.returns-in_err-prefix
+returns-in_err-prefix c = rw c.from_residual.ensures (λ k n s. name_short c.args.name.now c.in_err-prefix.ensures.cases k n)
 
-pub returns-in_default : goal.returns-in_default
-returns-in_default c = λ k n s. name_not_kind c.args.name.now c.if-name-lt-PREFIX_BYTES.false (rw c.in_default.is at c.kind_read.ensures) k n
+pub returns-in_err-kind : goal.returns-in_err-kind
+returns-in_err-kind c = rw c.from_residual-in_err-kind.ensures (λ k n s e. c.in_err-kind.ensures k (c.in_ok-prefix.ensures.cases.1 ∙ ap (take 4) e ∙ name_prefix k n))
 
-pub returns-in_default-number_read : goal.returns-in_default-number_read
-returns-in_default-number_read c = name_not_number c.args.name.now c.if-name-lt-PREFIX_BYTES.false (rw c.in_default-number_read.is at c.number_read.ensures)
+pub returns-in_err-number : goal.returns-in_err-number
+returns-in_err-number c = rw c.from_residual-in_err-number.ensures (λ k n s e. c.in_err-number.ensures n s (c.in_ok-prefix.ensures.cases.2 ∙ ap (drop 4) e ∙ name_digits k n))
 
 pub returns : goal.returns
-returns c = name_is c.args.name.now c.if-name-lt-PREFIX_BYTES.false _ _ (rw c.in-Is.is at c.kind_read.ensures) (rw c.in-Is-number_read.is at c.number_read.ensures)
+returns c = name_is c.args.name.now _ _ (sym c.in_ok-prefix.ensures.cases.1 ∙ c.in_ok-kind.ensures) (sym c.in_ok-prefix.ensures.cases.2 ∙ c.in_ok-number.ensures)

@@ -1,16 +1,16 @@
-use Rattle.options.proofs.Laws.{empty_piece, full_piece}
 use mathlib.Core.Path.{sym}
+use Rattle.options.proofs.Laws.{empty_piece, full_piece}
 use Rattle.options.proofs.after_piece.Goals as goal
 
-pub returns-then-piece-eq0 : goal.returns-then-piece-eq0
-returns-then-piece-eq0 c = let a = c.args in sym (empty_piece a.so_far a.piece.now c.if-piece-eq0.true)
+pub returns-then-is_empty : goal.returns-then-is_empty
+returns-then-is_empty c = let a = c.args in sym (empty_piece a.so_far a.piece.now (sym c.if-is_empty.ensures))
 
-pub returns-in-Good : goal.returns-in-Good
-returns-in-Good c =
+pub returns-in_err-so_far : goal.returns-in_err-so_far
+returns-in_err-so_far c =
     let a = c.args in
-    rw (full_piece a.so_far a.piece.now c.if-piece-eq0.false, c.in-Good.is, ← c.piece_of.ensures) c.with_piece.ensures
+    rw (full_piece a.so_far a.piece.now (sym c.if-is_empty.ensures), c.in_err-so_far.was) c.from_residual.ensures
 
-pub returns-in-Bad : goal.returns-in-Bad
-returns-in-Bad c =
+pub returns : goal.returns
+returns c =
     let a = c.args in
-    rw (full_piece a.so_far a.piece.now c.if-piece-eq0.false, c.in-Bad.is)
+    rw (full_piece a.so_far a.piece.now (sym c.if-is_empty.ensures), c.in_ok-so_far.was, ← c.piece_of.ensures) c.with_piece.ensures

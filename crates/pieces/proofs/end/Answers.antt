@@ -8,7 +8,7 @@ end_answer-answer-requires c = (possible-told c.args.pieces (sym c.is_possible.e
 
 pub returns-then-is_possible : goal.returns-then-is_possible
 unfolding end_outcome
-returns-then-is_possible c = rw (sym c.is_possible.ensures ∙ c.if-is_possible.true, c.received_by-after.ensures, c.ended_as.ensures, c.end_mount-mount.ensures, c.end_answer-answer.ensures, c.end_check-found.ensures)
+returns-then-is_possible c = rw (sym c.is_possible.ensures ∙ c.if-is_possible.true, c.received_by.ensures, c.ended_as.ensures, c.end_mount.ensures, c.end_answer-answer.ensures, c.end_check-found.ensures)
 
 pub returns-else-is_possible : goal.returns-else-is_possible
 unfolding end_outcome

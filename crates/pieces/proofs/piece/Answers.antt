@@ -9,11 +9,11 @@ use Rattle.pieces.proofs.piece.Goals as goal
 pub receive-received-requires : goal.receive-received-requires
 receive-received-requires c = let a = c.args in
     let p = possible-told a.pieces (sym c.is_possible.ensures ∙ c.if-is_possible.true) in
-    (omega (arith, ap (λ (r : Rule). r.unit) c.rule_of-rule.ensures, block_positive a.pieces.mount.volume.block p.0), p.1)
+    (omega (arith, ap (λ (r : Rule). r.unit) c.rule_of.ensures, block_positive a.pieces.mount.volume.block p.0), p.1)
 
 pub returns-then-is_possible : goal.returns-then-is_possible
 unfolding piece_outcome
-returns-then-is_possible c = rw (sym c.is_possible.ensures ∙ c.if-is_possible.true, sym c.rule_of-rule.ensures, c.receive-received.ensures, c.received_by-after.ensures)
+returns-then-is_possible c = rw (sym c.is_possible.ensures ∙ c.if-is_possible.true, sym c.rule_of.ensures, c.receive-received.ensures, c.received_by.ensures)
 
 pub returns-else-is_possible : goal.returns-else-is_possible
 unfolding piece_outcome

@@ -1,5 +1,10 @@
-use Rattle.pieces_words.proofs.Parts.{part_put}
+use native.Mathlib.Omega.{arith}
+use mathlib.Core.Path.{◌≡◌, ap, ◌∙◌}
+use Rattle.pieces_words.proofs.Parts.{part_of, part_whole}
 use Rattle.pieces_words.proofs.part_from.Goals as goal
 
 pub returns : goal.returns
-returns c = part_put c.args.w.now c.put_number.ensures c.put_number-2.ensures c.put_number-3.ensures c.put_number-4.ensures c.put_number-5.ensures c.put_number-6.ensures c.put_number-7.ensures c.put_number-8.ensures
+returns c =
+    let w = c.args.w.now in
+    let all : c.loop-k.k ≡ 8 = omega arith in
+    c.loop-k.invariant ∙ ap (part_of w) all ∙ part_whole w

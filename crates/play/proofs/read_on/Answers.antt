@@ -6,5 +6,6 @@ pub returns-clause-continues : goal.returns-clause-continues
 returns-clause-continues g c =
     let input = c.in_ok-input.input in
     let f = c.in_ok-input.ensures in
-    continues c.args.b.now c.args.cnv.now c.args.seq.now input.have c.args.kept input.ended c.args.ended (length c.args.out.now)
-    f.have_le_have.0 f.b_unchanged f.have_le_have.3 c.next_part-next.ensures
+    let m = c.args.m.now in
+    continues m.buffer m.cnv m.seq input.have c.args.p.kept input.ended c.args.p.ended (length m.lines)
+    f.have_le_have.0 f.b_unchanged f.have_le_have.3 c.next_part-kept.ensures

@@ -9,7 +9,7 @@ use Rattle.receiving.proofs.add_bytes.Goals as goal
 
 pub slice_bounds-put_bytes-end-2 : goal.slice_bounds-put_bytes-end-2
 slice_bounds-put_bytes-end-2 c =
-    let n = c.smaller-n in
+    let n = c.min-n in
     omega (arith, n.ensures, length-take n.result c.args.bytes.now)
 
 pub put_bytes-requires : goal.put_bytes-requires
@@ -17,7 +17,7 @@ put_bytes-requires c =
     let a = c.args in
     let long : length a.received.part ≡ 64 = search rules in
     let unit = c.unit_bytes-unit in
-    let n = c.smaller-n in
+    let n = c.min-n in
     let few = unit_few a.received.intake in
     omega (arith, unit.ensures, n.ensures, length-take n.result a.bytes.now)
 
@@ -26,10 +26,10 @@ returns-then-held-unit c =
     let a = c.args in
     let p = c.requires in
     let unit = c.unit_bytes-unit in
-    let n = c.smaller-n in
+    let n = c.min-n in
     let s : Receiving = record { received = a.received; cnv = a.cnv.now; seq = a.seq.now } in
     let all = add_last a.rule s a.bytes.now n.result p.1 p.2 p.3 (rw unit.ensures at n.ensures) (c.if-held-unit.true ∙ unit.ensures)
-    c.put_bytes.ensures c.take_unit-taken.ensures c.wholly-whole.ensures in
+    c.put_bytes.ensures c.take_unit.ensures c.wholly.ensures in
     record { fed = all.0; used = all.1.0; taken = all.1.1.0; rest = all.1.1.1 }
 
 pub returns-else-held-unit : goal.returns-else-held-unit
@@ -37,7 +37,7 @@ returns-else-held-unit c =
     let a = c.args in
     let p = c.requires in
     let unit = c.unit_bytes-unit in
-    let n = c.smaller-n in
+    let n = c.min-n in
     let s : Receiving = record { received = a.received; cnv = a.cnv.now; seq = a.seq.now } in
     let all = add_some a.rule s a.bytes.now n.result p.1 p.2 p.3 (rw unit.ensures at n.ensures) (λ q. c.if-held-unit.false (q ∙ sym unit.ensures))
     c.put_bytes.ensures in

@@ -14,7 +14,7 @@ pub returns-else-intake-eq0 : goal.returns-else-intake-eq0
 unfolding unit_taken
 returns-else-intake-eq0 c = let a = c.args in
     let p = c.requires in
-    let w = c.take_whole-whole in
+    let w = c.take_whole in
     let some = c.if-intake-eq0.false in
     let t : Taking = record { intake = a.intake; cnv = a.cnv.now; seq = a.seq.now } in
     let one = w.ensures.moved (goes_on_in a.intake p.2 (not-complete a.intake p.3 some)) (omega (arith, p.4)) in

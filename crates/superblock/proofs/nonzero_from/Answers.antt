@@ -1,17 +1,16 @@
-use mathlib.Core.Path.{sym, ◌∙◌}
-use native.Mathlib.Omega.{arith}
-use Rattle.superblock.proofs.Laws.{nonzero_here, nonzero_next, nonzero_end}
+use Rattle.std.proofs.Common.{rules, tests}
+use mathlib.Core.Path.{◌∙◌}
+use mathlib.Core.Bool.{not}
+use lib.Dec.{eqb}
+use lib.ListN.{drop}
+use Rattle.std.proofs.lemmas.Iterator.{YieldsList-from_slice}
+use Rattle.std.proofs.lemmas.Iterator.Adapters.{YieldsList-from_skip}
+use Rattle.std.proofs.lemmas.Iterator.Search.{any_from_yields_List}
+use Rattle.superblock.proofs.Laws.{nonzero_any}
 use Rattle.superblock.proofs.nonzero_from.Goals as goal
 
-pub returns-then-b-i-ne0 : goal.returns-then-b-i-ne0
-returns-then-b-i-ne0 c =
-    let l = c.loop-i in
-    sym (nonzero_here c.args.b.now l.i (omega arith) c.if-b-i-ne0.true) ∙ l.invariant
-
-pub loop-i-preserved : goal.loop-i-preserved
-loop-i-preserved c =
-    let l = c.loop-i in
-    nonzero_next c.args.b.now l.i (omega arith) c.if-b-i-ne0.false ∙ l.invariant
-
 pub returns : goal.returns
-returns c = let l = c.loop-i in sym (nonzero_end c.args.b.now l.i (omega arith)) ∙ l.invariant
+returns c =
+    any_from_yields_List (λ x. not (eqb x 0)) _ _ _ c.any.ensures.ran
+    (YieldsList-from_skip c.args.from (YieldsList-from_slice c.args.b.now cc) cc) (λ x r q k. search (rules, tests))
+    ∙ nonzero_any (drop c.args.from c.args.b.now)

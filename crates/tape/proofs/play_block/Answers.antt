@@ -14,9 +14,6 @@ loop-cnv-init c =
     let a = c.args in
     (refl, refl, refl, λ h. h, begin a.out.now a.b.now a.ended a.t.to (length a.out.now) (rest_of a.t a.cnv.now a.seq.now))
 
-pub is_ready-requires : goal.is_ready-requires
-is_ready-requires c = tt
-
 pub take_turn-t-requires : goal.take_turn-t-requires
 take_turn-t-requires c =
     let a = c.args in

@@ -4,12 +4,6 @@ use native.Mathlib.Omega.{arith}
 use Rattle.tape.proofs.Playing.{copied, played, tape_text_lem, answered}
 use Rattle.tape.proofs.play_with.Goals as goal
 
-pub play_rest-end-requires : goal.play_rest-end-requires
-play_rest-end-requires c = tt
-
-pub played_to-requires : goal.played_to-requires
-played_to-requires c = tt
-
 pub returns : goal.returns
 returns c = let a = c.args in
     let t = copied {t = open_turn a.b.now a.cnv.now a.seq.now} (played {t = open_turn a.b.now a.cnv.now a.seq.now} c.open_tape-t.ensures) (omega arith) c.copy_lines-t.ensures in

@@ -1,12 +1,7 @@
-use native.Mathlib.Omega.{arith}
 use Rattle.text.proofs.Stores.{then}
 use Rattle.tape_lines.specs.Lines.{mount_line}
 use Rattle.tape_lines.proofs.put_mount_line.Goals as goal
 
-pub returns : goal.returns
+pub returns-clause-put : goal.returns-clause-put
 unfolding mount_line
-returns c =
-    let mark = c.put_letters-next.ensures in
-    let answer = c.put_mount_answer-end.ensures in
-    let end = c.put_byte.ensures in
-    record { put = then (then mark answer.put) end; upper_bound = omega (arith, mark.place, answer.upper_bound, end.place) }
+returns-clause-put c = then (then c.put_letters-next.ensures c.put_mount_answer-end.ensures.put) c.put_byte.ensures

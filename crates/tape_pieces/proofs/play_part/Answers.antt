@@ -12,6 +12,6 @@ slice_bounds-play_block-end-2 c = sym (length-take-le _ _ c.requires)
 pub returns : goal.returns
 returns c = let a = c.args in
     let p = c.play_block-played.ensures in
-    let k = c.keep_rest-left.ensures in
-    keeps a.ended (take a.have a.b.now) (length a.out.now) (rest_of a.t a.cnv.now a.seq.now) p.plays p.to_in_bounds k.value k.b_after c.at_front-turned.ensures
+    let k = c.keep_rest.ensures in
+    keeps a.ended (take a.have a.b.now) (length a.out.now) (rest_of a.t a.cnv.now a.seq.now) p.plays p.to_in_bounds k.value k.b_after c.at_front.ensures
     (omega (arith, length-take-le a.have a.b.now c.requires, c.requires))

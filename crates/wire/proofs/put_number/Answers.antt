@@ -1,28 +1,32 @@
-use Prim.Native.Nat.{ℕ, ◌+◌, ◌-◌, ◌%◌}
 use native.Mathlib.Omega.{arith}
-use mathlib.Core.Path.{◌≡◌, refl, ap, ◌∙◌}
+use Prim.Native.Nat.{ℕ, ◌-◌}
+use mathlib.Core.List.{append-nil}
+use mathlib.Core.Path.{◌≡◌, ap, ◌∙◌}
 use lib.ListN.{length-set}
+use lib.Seq.{sets}
+use Rattle.std.proofs.lemmas.List.{take_all}
 use Rattle.wire.specs.Le.{little}
-use Rattle.wire.proofs.Stores.{begun, stored, number_left}
+use Rattle.wire.proofs.Stores.{part_size, put_part, byte_put}
 use Rattle.wire.proofs.put_number.Goals as goal
 
-pub loop-i-init : goal.loop-i-init
-loop-i-init c =
+pub loop-byte-init : goal.loop-byte-init
+loop-byte-init c =
     let a = c.args in
     let none : a.n - 0 ≡ a.n = omega arith in
-    (omega arith, refl, begun a.b.now _ _ a.at (ap (λ (k : ℕ). little k a.x) none))
+    (part_size a.b.now a.at a.n c.requires, ap (λ (k : ℕ). little k a.x) none)
 
-pub loop-i-preserved : goal.loop-i-preserved
-loop-i-preserved c =
-    let a = c.args in
-    let l = c.loop-i in
-    let x : ℕ = l.rest % 256 in
-    let all = stored l.b _ _ a.at l.i x (number_left a.n l.i l.rest (omega arith)) ∙ l.invariant.2 in
-    (omega arith, length-set l.b (a.at + l.i) _ ∙ l.invariant.1, rw c.low_byte.ensures all)
+pub loop-byte-preserved : goal.loop-byte-preserved
+loop-byte-preserved c =
+    let l = c.loop-byte in (
+      length-set l.byte-items l.byte-index _ ∙ l.invariant.0,
+      byte_put c.args.n l.byte-index l.rest l.byte-items (omega arith) l.invariant.0 ∙ l.invariant.1,
+    )
 
 pub returns : goal.returns
 unfolding little
 returns c =
-    let l = c.loop-i in
-    let none : c.args.n - l.i ≡ 0 = omega arith in
-    rw none at l.invariant.2
+    let a = c.args in
+    let l = c.loop-byte in
+    let none : a.n - l.byte-index ≡ 0 = omega arith in
+    let whole = rw (none, take_all l.byte-index l.byte-items (omega arith), append-nil l.byte-items) at l.invariant.1 in
+    put_part a.b.now l.byte-items a.at _ (omega arith) (omega arith) ∙ ap (sets a.b.now a.at) whole

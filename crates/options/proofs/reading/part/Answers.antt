@@ -1,20 +1,12 @@
-use Prim.Native.Nat.{◌+◌}
-use mathlib.Core.Path.{◌∙◌, sym, ap}
-use lib.ListN.{drop}
-use native.Mathlib.Omega.{arith}
-use Rattle.options.specs.declared.reading.Reading.{Reading}
-use Rattle.options.specs.Reading.{part_taken}
-use Rattle.options.proofs.Parts.{part_more, part_done}
-use borrow.Author.Rules.{rules}
+use Rattle.std.proofs.Common.{rules, tests}
+use mathlib.Core.Path.{◌∙◌}
+use Rattle.std.proofs.lemmas.Iterator.{YieldsList-from_slice}
+use Rattle.std.proofs.lemmas.Iterator.Consumers.{fold_from_yields_List}
+use Rattle.options.specs.Reading.{byte_taken}
+use Rattle.options.proofs.Parts.{taken_all}
 use Rattle.options.proofs.reading.part.Goals as goal
-
-pub loop-i-preserved : goal.loop-i-preserved
-loop-i-preserved c =
-    let l = c.loop-i in
-    let b = c.args.bytes.now in
-    (search rules, search rules, ap (λ (r : Reading). part_taken r (drop (l.i + 1) b)) c.take_byte-taken.ensures ∙ part_more l.taken b l.i (omega arith) ∙ l.invariant.2)
 
 pub returns : goal.returns
 returns c =
-    let l = c.loop-i in
-    sym (part_done l.taken c.args.bytes.now l.i (omega arith)) ∙ l.invariant.2
+    fold_from_yields_List _ byte_taken c.args.reading _ c.fold.ensures.ran (YieldsList-from_slice c.args.bytes.now cc) (λ a x b q k. search (rules, tests))
+    ∙ taken_all c.args.reading c.args.bytes.now

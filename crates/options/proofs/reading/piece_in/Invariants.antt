@@ -1,12 +1,8 @@
-use Prim.Native.Nat.{◌/◌, ◌^◌, ◌≤◌}
+use Prim.Native.Nat.{◌/◌, ◌^◌}
 use mathlib.Core.Path.{◌≡◌}
 use lib.ListN.{drop}
 use Rattle.options.specs.Reading.{words, piece_in}
-use Rattle.options.proofs.Sets.{count}
 use Rattle.options.proofs.reading.piece_in.Given as goal
 
 abbrev pub invariant-loop-w : goal.invariant-loop-w
-invariant-loop-w l = (l.w ≤ count) × (l.asked ≡ piece_in (drop l.w words) (l.set / 2 ^ l.w))
-
-abbrev pub decreases-loop-w : goal.decreases-loop-w
-decreases-loop-w l = l.w
+invariant-loop-w l = l.asked ≡ piece_in (drop l.w words) (l.set / 2 ^ l.w)
