@@ -5,7 +5,7 @@ use Rattle.types.specs.declared.Refusal.TheVariants.{BadBlock, SuperLength, Labe
 use Rattle.types.specs.Answers.{Verdict}
 use Rattle.types.specs.Answers.{FormatAnswer}
 use Rattle.types.specs.Blocks.{bytes_of, block_sectors, good_block}
-use Rattle.types.specs.Verdicts.{refuse}
+use Rattle.types.specs.Verdicts.{refuse, giving}
 use Rattle.superblock.specs.SuperBlock.{label_length, label_at, uuid_at, features_at, uid_at, gid_at, perm_at, super_bytes, wrong_length, values_check, super_check}
 use Rattle.zones.specs.declared.Zone.{Zone}
 use Rattle.zones.specs.Zone.{zone_bytes, zone_at, sequential, healthy, written_size}
@@ -77,10 +77,6 @@ fields_at b =
 abbrev pub FieldsRead : Type 0
 FieldsRead = Result SuperFields Refusal
 
-abbrev pub fields_as : Verdict → List ℕ → FieldsRead
-fields_as (Ok tt) b = Ok (fields_at b)
-fields_as (Err x) b = Err x
-
 -- a mount's checks of the super block, and the fields where they are passed
 unfoldable pub fields_read : List ℕ → FieldsRead
-fields_read b = fields_as (super_check b) b
+fields_read b = giving (super_check b) (fields_at b)
