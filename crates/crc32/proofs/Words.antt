@@ -2,11 +2,13 @@
 use mathlib.Core.Path.{◌≡◌, refl, ap, ap₂, ◌∙◌, sym}
 use mathlib.Core.List.{List, [], ◌∷◌, ◌++◌, reverse}
 use mathlib.Core.Logic.{◌⊎◌, inl, inr}
-use Prim.Native.Nat.{ℕ, zero, suc, ◌+◌, ◌*◌, ◌/◌, ◌%◌, ◌^◌, ◌<◌}
+use Prim.Native.Nat.{ℕ, zero, suc, ◌+◌, ◌-◌, ◌*◌, ◌/◌, ◌%◌, ◌^◌, ◌<◌}
 use native.Mathlib.Nat.{mod-lt, zero-lt-suc, pow-suc, div-eq_of_lt, div-div-eq-div-mul}
+use native.Mathlib.Numerals.{add-one}
 use native.Mathlib.Omega.{arith}
 use lib.Bits.{bit_xor, xor_zero_r, xor_comm, xor_shifted}
 use lib.ListN.{length, drop, get_or}
+use lib.Pow.{shr-shr}
 use lib.Seq.{drop-cons}
 use Rattle.std.proofs.lemmas.List.{reverse-append, length-reverse}
 use Rattle.std.specs.Int.{byte_at, bytes_high_first}
@@ -94,9 +96,21 @@ module _ (tables : List (List ℕ)) (rule : AllRuled tables) where
       ap (bit_xor (zeros t (v / 256))) (every_entry t (v % 256) h (mod-lt v (zero-lt-suc 255)))
       ∙ sym (ap (zeros t) (low_byte v) ∙ zeros_xor t (v / 256) (crc_steps 8 (v % 256)))
 
+  -- a turn of a loop that counts the tables, from the highest byte of a number of eight to the lowest
+  pub by_turn : (t v sum : ℕ) → t < 8 → sum ≡ zeros t (v / 2 ^ (64 - 8 * t))
+      → bit_xor sum (get_or (get_or tables t []) (v / 2 ^ (56 - 8 * t) % 256) 0) ≡ zeros (t + 1) (v / 2 ^ (64 - 8 * (t + 1)))
+  by_turn t v sum h e =
+      let u = v / 2 ^ (56 - 8 * t) in
+      let above : 64 - 8 * t ≡ 56 - 8 * t + 8 = omega arith in
+      let here : 64 - 8 * (t + 1) ≡ 56 - 8 * t = omega arith in
+      let upper : v / 2 ^ (64 - 8 * t) ≡ u / 256 = ap (λ (k : ℕ). v / 2 ^ k) above ∙ sym (shr-shr v (56 - 8 * t) 8) in
+      ap (λ (k : ℕ). bit_xor k (get_or (get_or tables t []) (u % 256) 0)) (e ∙ ap (zeros t) upper)
+      ∙ by_entry t u h
+      ∙ sym (ap₂ (λ (n k : ℕ). zeros n (v / 2 ^ k)) (add-one t) here)
+
   -- a table more: the byte k of a number, after those above it
-  by_turn : (k t v : ℕ) → t < 8 → bit_xor (zeros t (v / 256 ^ suc k)) (get_or (get_or tables t []) (byte_at k v) 0) ≡ zeros (suc t) (v / 256 ^ k)
-  by_turn k t v h =
+  by_byte : (k t v : ℕ) → t < 8 → bit_xor (zeros t (v / 256 ^ suc k)) (get_or (get_or tables t []) (byte_at k v) 0) ≡ zeros (suc t) (v / 256 ^ k)
+  by_byte k t v h =
       let upper : v / 256 ^ suc k ≡ v / 256 ^ k / 256 = ap (λ (m : ℕ). v / m) (pow-suc 256 k) ∙ sym (div-div-eq-div-mul v (256 ^ k) 256) in
       ap₂ (λ (u x : ℕ). bit_xor (zeros t u) (get_or (get_or tables t []) x 0)) upper (byte_is k v) ∙ by_entry t (v / 256 ^ k) h
 
@@ -108,7 +122,7 @@ module _ (tables : List (List ℕ)) (rule : AllRuled tables) where
       ap₂ zeros all whole
   by_tables (suc k) t v e eight =
       ap (looked_up (zeros t (v / 256 ^ suc k)) (bytes_high_first (suc k) v)) (drop-cons tables t [] (omega arith))
-      ∙ ap (λ (s : ℕ). looked_up s (bytes_high_first k v) (drop (suc t) tables)) (by_turn k t v (omega arith))
+      ∙ ap (λ (s : ℕ). looked_up s (bytes_high_first k v) (drop (suc t) tables)) (by_byte k t v (omega arith))
       ∙ by_tables k (suc t) v (omega arith) eight
 
   -- the eight bytes of a number, the highest first, each in its table: as many zero bytes after it

@@ -46,7 +46,7 @@ fn next(table: &[u32; 256], crc: u32, byte: u8) -> u32
 }
 
 // The register `crc` after the bytes of `b`, one at a time.
-#[tactic(auto, using(crate::proofs::Fold::crc_none, crate::proofs::Fold::crc_more))]
+#[tactic(auto, using(crate::proofs::Fold::crc_none, crate::proofs::Fold::crc_next))]
 fn carry(table: &[u32; 256], crc: u32, b: &[u8]) -> u32
     requires { Ruled table.now }
     ensures { result ≡ crc_from crc b.now }

@@ -1,8 +1,10 @@
--- Bytes put over others: over a part of them, and over all of them.
+-- Bytes put over others: over a part of them, over all of them, and one after the other.
 -- Assumes nothing.
 use mathlib.Core.Path.{◌≡◌, refl, ap, sym, ◌∙◌}
 use mathlib.Core.List.{List, [], ◌∷◌, ◌++◌, append-nil, append_assoc}
 use Prim.Native.Nat.{ℕ, suc, ◌+◌, ◌-◌, ◌/◌, ◌%◌, ◌≤◌, ◌<◌}
+use native.Mathlib.Nat.{add-zero, add-suc}
+use native.Mathlib.Numerals.{add-one}
 use native.Mathlib.Omega.{arith}
 use lib.ListN.{length, set, take, drop, drop_of_length-le}
 use lib.Seq.{sets, sets-eq, drop-drop}
@@ -10,6 +12,19 @@ use borrow.Rule.Slice.PartMut.{put_mid}
 use Rattle.std.proofs.lemmas.List.Edits.{length-between}
 use Rattle.std.proofs.lemmas.Grind.{take-set_at}
 use Rattle.wire.specs.Le.{little}
+
+-- ONE AFTER THE OTHER, at places counted from `at`, by a loop whose invariant is of what is left: what is there so far, with the rest put behind it, is all put
+
+-- none is stored yet
+pub begun : (b left all : List ℕ) (at : ℕ) → left ≡ all → sets b (at + 0) left ≡ sets b at all
+begun b left all at e = ap (λ (k : ℕ). sets b k left) (add-zero at) ∙ ap (sets b at) e
+
+-- byte i is the first of those that are left
+pub stored : (b left rest : List ℕ) (at i v : ℕ) → left ≡ v ∷ rest → sets (set b (at + i) v) (at + (i + 1)) rest ≡ sets b (at + i) left
+stored b left rest at i v e =
+    ap (λ (k : ℕ). sets (set b (at + i) v) k rest) (ap (λ (k : ℕ). at + k) (add-one i) ∙ add-suc at i) ∙ sym (ap (sets b (at + i)) e)
+
+-- A PART, AND ALL
 
 -- a part of n bytes, as a range gives it
 pub part_size : (b : List ℕ) (at n : ℕ) → at + n ≤ length b → length (take (at + n - at) (drop at b)) ≡ n

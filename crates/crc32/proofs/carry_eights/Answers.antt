@@ -1,4 +1,4 @@
-use Rattle.crc32.proofs.Fold.{crc_none, crc_word, crc_rest, eight_at}
+use Rattle.crc32.proofs.Fold.{crc_none, crc_next_word, crc_rest, eight_at}
 use Rattle.crc32.specs.Crc.{crc_from}
 use Rattle.wire.specs.Le.{le, little}
 use lib.ListN.{length, take, get_or}
@@ -21,7 +21,7 @@ loop-eight-preserved c =
     let eight = ap (λ (es : List (List ℕ)). get_or es i []) c.as_chunks.ensures.front ∙ eight_at (length b / 8) i b (omega (arith, c.as_chunks.ensures.front_len)) in
     c.next_eight-sum.ensures
     ∙ ap₂ (λ (s w : ℕ). crc_from s (little 8 w)) c.loop-eight.invariant (c.u64_at.ensures ∙ ap (λ (e : List ℕ). le 8 e 0) eight)
-    ∙ crc_word 8 crc b (i * 8) (λ k. (c.type_inv.b k).fits) within
+    ∙ crc_next_word 8 crc b (i * 8) (λ k. (c.type_inv.b k).fits) within
     ∙ ap (λ (n : ℕ). crc_from crc (take n b)) on
 
 pub returns : goal.returns
