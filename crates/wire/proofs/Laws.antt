@@ -8,7 +8,7 @@ use native.Mathlib.Nat.{zero-add, suc-add, add-zero, mul_comm, mul_assoc, pow-su
 use native.Mathlib.Omega.{arith}
 use lib.ListN.{length, get_or, take, drop, take-append-drop}
 use lib.Seq.{drop-cons, drop-drop, drop_at, get_or-drop}
-use Rattle.std.specs.Int.{sum_through, byte_worth}
+use Rattle.std.specs.Int.{sum_through, byte_worth, from_le_bytes, w16, w32, w64}
 use Rattle.std.proofs.lemmas.List.{get_or-take}
 use Rattle.wire.specs.Le.{le, little}
 
@@ -134,3 +134,23 @@ le_part n b at = le_take n n (drop at b) 0 (omega arith) ∙ le-drop n at b 0 �
 
 pub sum_there : (n : ℕ) (b : List ℕ) (at : ℕ) → sum_through (λ i. byte_worth i (get_or (take (suc n) (drop at b)) i 0)) n ≡ le (suc n) b at
 sum_there n b at = sum_le n (take (suc n) (drop at b)) ∙ le_part (suc n) b at
+
+-- EACH WIDTH, as code may read it: by its bytes, and by its low half and its high half
+
+pub two_bytes : (b : List ℕ) (at : ℕ) → le 2 b at ≡ from_le_bytes w16 (take 2 (drop at b))
+two_bytes b at = sym (sum_there 1 b at)
+
+pub two_halves : (b : List ℕ) (at : ℕ) → le 2 b at ≡ get_or b at 0 + 256 * get_or b (at + 1) 0
+two_halves b at = omega (arith, le-add 1 1 b at, le-one b at, le-one b (at + 1))
+
+pub four_bytes : (b : List ℕ) (at : ℕ) → le 4 b at ≡ from_le_bytes w32 (take 4 (drop at b))
+four_bytes b at = sym (sum_there 3 b at)
+
+pub four_halves : (b : List ℕ) (at : ℕ) → le 4 b at ≡ le 2 b at + 65536 * le 2 b (at + 2)
+four_halves b at = omega (arith, le-add 2 2 b at)
+
+pub eight_bytes : (b : List ℕ) (at : ℕ) → le 8 b at ≡ from_le_bytes w64 (take 8 (drop at b))
+eight_bytes b at = sym (sum_there 7 b at)
+
+pub eight_halves : (b : List ℕ) (at : ℕ) → le 8 b at ≡ le 4 b at + 4294967296 * le 4 b (at + 4)
+eight_halves b at = omega (arith, le-add 4 4 b at)

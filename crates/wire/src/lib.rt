@@ -1,5 +1,5 @@
-// Little-endian numbers at an offset of lent bytes: each width is two numbers of half its bytes, the low one first. And the other way round:
-// numbers, bytes and zeros put into lent bytes from a place on.
+// Little-endian numbers at an offset of lent bytes: the library reads each width from an array of its bytes. And the other way round: numbers, bytes
+// and zeros put into lent bytes from a place on.
 #![tactic(auto)]
 
 ghost use Rattle.std.specs.Prelude.{◌≡◌, ◌+◌, ◌%◌, ◌≤◌, ◌<◌, length, get_or, take, drop, replicate};
@@ -26,6 +26,7 @@ fn bytes_at<const N: usize>(b: &[u8], at: usize) -> [u8; N]
 }
 
 // The number of the two bytes at `at`.
+#[tactic(auto, using(crate::proofs::Laws::two_bytes, crate::proofs::Laws::two_halves))]
 pub fn u16_at(b: &[u8], at: usize) -> u16
     requires { at + 2 ≤ length b.now }
     ensures { result ≡ le 2 b.now at }
@@ -34,6 +35,7 @@ pub fn u16_at(b: &[u8], at: usize) -> u16
 }
 
 // The number of the four bytes at `at`.
+#[tactic(auto, using(crate::proofs::Laws::four_bytes, crate::proofs::Laws::four_halves))]
 pub fn u32_at(b: &[u8], at: usize) -> u32
     requires { at + 4 ≤ length b.now }
     ensures { result ≡ le 4 b.now at }
@@ -42,6 +44,7 @@ pub fn u32_at(b: &[u8], at: usize) -> u32
 }
 
 // The number of the eight bytes at `at`.
+#[tactic(auto, using(crate::proofs::Laws::eight_bytes, crate::proofs::Laws::eight_halves))]
 pub fn u64_at(b: &[u8], at: usize) -> u64
     requires { at + 8 ≤ length b.now }
     ensures { result ≡ le 8 b.now at }
