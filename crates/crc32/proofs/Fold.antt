@@ -58,3 +58,16 @@ eight_at (suc k) zero b h = refl
 eight_at (suc k) (suc i) b h =
     let on : 8 + i * 8 ≡ suc i * 8 = omega arith in
     eight_at k i (drop 8 b) (omega arith) ∙ ap (take 8) (drop-drop (i * 8) 8 b ∙ ap (λ (n : ℕ). drop n b) on)
+
+-- the number of these, and what it makes of the register so far
+pub eight_number : (k i : ℕ) (b : List ℕ) → i < k → le 8 (get_or (first_chunks 8 k b) i []) 0 ≡ le 8 b (i * 8)
+eight_number k i b h = ap (λ (l : List ℕ). le 8 l 0) (eight_at k i b h) ∙ le_part 8 b (i * 8)
+
+pub eight_more : (b : List ℕ) → ((k : ℕ) → get_or b k 0 < 256) → (c at : ℕ) → at + 8 ≤ length b
+    → crc_from (crc_from c (take at b)) (little 8 (le 8 b at)) ≡ crc_from c (take (at + 8) b)
+eight_more b small c at h =
+    ap (λ (w : ℕ). crc_from (crc_from c (take at b)) (little 8 w)) (sym (le_part 8 b at)) ∙ crc_next_word 8 c b at small h
+
+-- the rest, after the bytes before a place
+pub rest_at : (c : ℕ) (b : List ℕ) (at from : ℕ) → at ≡ from → crc_from (crc_from c (take at b)) (drop from b) ≡ crc_from c b
+rest_at c b at from e = ap (λ (k : ℕ). crc_from (crc_from c (take at b)) (drop k b)) (sym e) ∙ crc_rest c b at

@@ -73,6 +73,7 @@ fn next_eight(tables: &[[u32; 256]; 8], crc: u32, word: u64) -> u32
 }
 
 // The register `crc` after the bytes of `b`: eight at a time, and those after the last eight one at a time.
+#[tactic(auto, using(crate::proofs::Fold::crc_none, crate::proofs::Fold::rest_at))]
 fn carry_eights(tables: &[[u32; 256]; 8], crc: u32, b: &[u8]) -> u32
     requires { AllRuled tables.now }
     ensures { result ≡ crc_from crc b.now }
