@@ -68,6 +68,6 @@ pub eight_more : (b : List ℕ) → ((k : ℕ) → get_or b k 0 < 256) → (c at
 eight_more b small c at h =
     ap (λ (w : ℕ). crc_from (crc_from c (take at b)) (little 8 w)) (sym (le_part 8 b at)) ∙ crc_next_word 8 c b at small h
 
--- the rest, after the bytes before a place
+-- the rest again, where its place is known to be that one only by an equation
 pub rest_at : (c : ℕ) (b : List ℕ) (at from : ℕ) → at ≡ from → crc_from (crc_from c (take at b)) (drop from b) ≡ crc_from c b
 rest_at c b at from e = ap (λ (k : ℕ). crc_from (crc_from c (take at b)) (drop k b)) (sym e) ∙ crc_rest c b at
