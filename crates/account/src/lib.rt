@@ -10,7 +10,7 @@ ghost use Rattle.account.specs.Account.{is_open, is_full, is_empty, is_active, c
 ghost use Rattle.account.specs.Counts.{passes, count_in};
 ghost use Rattle.account.specs.Facts.{Room};
 
-use types::answers::refuse;
+use types::answers::refuse_if;
 use types::{Account, FileKind, Mount, Outstanding, Refusal, Row, Volume, predicates};
 
 // The file is open for writing.
@@ -111,8 +111,8 @@ pub fn limit_check(explicit: bool, account: Account, before: Row, after: Row) ->
     let activates = !is_active(explicit, before) & is_active(explicit, after);
     let open = exceeds(account.opened, account.open_limit);
     let active = exceeds(account.active, account.active_limit);
-    refuse(explicit & (opens & open), Refusal::OpenLimit)?;
-    refuse(explicit & (activates & active), Refusal::ActiveLimit)
+    refuse_if(explicit & (opens & open), Refusal::OpenLimit)?;
+    refuse_if(explicit & (activates & active), Refusal::ActiveLimit)
 }
 
 // Check 10, of an account beside the number of sequential files.

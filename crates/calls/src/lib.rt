@@ -19,7 +19,7 @@ fn on_row(m: Mount, kind: FileKind, row: Row, x: Call) -> Result<Granted, Refusa
     ensures { result ≡ on_row m kind row x }
 {
     let busy = types::predicates::is_busy(row.outstanding);
-    types::answers::refuse(busy, Refusal::Busy)?;
+    types::answers::refuse_if(busy, Refusal::Busy)?;
     let v = m.volume;
     let answer = decision::dispatch(m.readonly, v.explicit, v.block, kind, row, x);
     decision::within_limits(v.explicit, m.account, kind, row, x, answer)

@@ -9,7 +9,7 @@ ghost use Rattle.types.specs.declared.FileKind.TheVariants.{Sequential};
 ghost use Rattle.decision.specs.Decision.{changes, unreadable, unwritable, bad_target, beyond, misplaced, command_of, file_command, read_count, transfer, resize, read_checks, write_checks, read_row, write_row, truncate_row, flush_row, unopened, opening, open_checks, open_row, closing, close_row, answer_on, dispatched, opens_file, closes_file, counts, called, limits_of, limited};
 ghost use Rattle.decision.specs.Facts.{Countable, Settles};
 
-use types::answers::refuse;
+use types::answers::refuse_if;
 use types::{
     Access, Account, Call, Command, CommandKind, FileKind, Granted, Refusal, Row, predicates, units,
 };
@@ -132,9 +132,9 @@ fn resize(row: Row, target: u64) -> Result<Granted, Refusal>
 fn read_checks(row: Row, offset: u64, length: u64) -> Result<(), Refusal>
     ensures { result ≡ read_checks row offset length }
 {
-    refuse(is_unreadable(row.access), Refusal::Denied)?;
+    refuse_if(is_unreadable(row.access), Refusal::Denied)?;
     let beyond = is_beyond(row.capacity, offset, length);
-    refuse(beyond, Refusal::BeyondCapacity)
+    refuse_if(beyond, Refusal::BeyondCapacity)
 }
 
 // The calls are each small, for the compiler to see through them wherever it is known which of them is made.
@@ -159,12 +159,12 @@ fn write_checks(
     requires { good_block block ≡ true }
     ensures { result ≡ write_checks explicit block kind row offset length }
 {
-    refuse(is_unwritable(row.access), Refusal::Denied)?;
-    refuse(is_unopened(explicit, kind, row), Refusal::NotOpen)?;
+    refuse_if(is_unwritable(row.access), Refusal::Denied)?;
+    refuse_if(is_unopened(explicit, kind, row), Refusal::NotOpen)?;
     let beyond = is_beyond(row.capacity, offset, length);
-    refuse(beyond, Refusal::BeyondCapacity)?;
+    refuse_if(beyond, Refusal::BeyondCapacity)?;
     let misplaced = is_misplaced(kind, block, row.size, offset, length);
-    refuse(misplaced, Refusal::Misplaced)
+    refuse_if(misplaced, Refusal::Misplaced)
 }
 
 pub fn write_row(
@@ -187,7 +187,7 @@ pub fn truncate_row(kind: FileKind, row: Row, target: u64) -> Result<Granted, Re
     ensures { result ≡ truncate_row kind row target }
 {
     let denied = is_unwritable(row.access) | is_bad_target(kind, row.capacity, target);
-    refuse(denied, Refusal::Denied)?;
+    refuse_if(denied, Refusal::Denied)?;
     resize(row, target)
 }
 
@@ -195,7 +195,7 @@ pub fn flush_row(row: Row) -> Result<Granted, Refusal>
     requires { row.start + row.capacity / sector_bytes ≤ 2 ^ 40 }
     ensures { result ≡ flush_row row }
 {
-    refuse(is_unwritable(row.access), Refusal::Denied)?;
+    refuse_if(is_unwritable(row.access), Refusal::Denied)?;
     Ok(Granted::Issue(file_command(CommandKind::Flush, row)))
 }
 
@@ -215,8 +215,8 @@ fn opening(explicit: bool, row: Row) -> Result<Granted, Refusal>
 fn open_checks(row: Row) -> Result<(), Refusal>
     ensures { result ≡ open_checks row }
 {
-    refuse(is_unwritable(row.access), Refusal::Denied)?;
-    refuse(MOST_OPENS <= row.opens, Refusal::TooManyOpens)
+    refuse_if(is_unwritable(row.access), Refusal::Denied)?;
+    refuse_if(MOST_OPENS <= row.opens, Refusal::TooManyOpens)
 }
 
 fn open_sequential(explicit: bool, row: Row) -> Result<Granted, Refusal>
@@ -254,7 +254,7 @@ fn close_sequential(explicit: bool, row: Row) -> Result<Granted, Refusal>
     requires { row.start + row.capacity / sector_bytes ≤ 2 ^ 40 }
     ensures { result ≡ close_row explicit Sequential row }
 {
-    refuse(!account::is_open(row), Refusal::NotOpen)?;
+    refuse_if(!account::is_open(row), Refusal::NotOpen)?;
     closing(explicit, row)
 }
 
@@ -300,7 +300,7 @@ pub fn dispatch(
     requires { (good_block block ≡ true) × (row.start + row.capacity / sector_bytes ≤ 2 ^ 40) }
     ensures { result ≡ dispatched readonly explicit block kind row x }
 {
-    refuse(readonly & changes(kind, x), Refusal::ReadOnlyMount)?;
+    refuse_if(readonly & changes(kind, x), Refusal::ReadOnlyMount)?;
     answer_on(explicit, block, kind, row, x)
 }
 

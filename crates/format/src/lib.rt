@@ -10,7 +10,7 @@ ghost use Rattle.superblock.specs.SuperBlock.{super_length, magic, tail_place, l
 ghost use Rattle.format.specs.Format.{must_finish, record_check, filled, format_check, format_outcome, fields_at, fields_read};
 
 use superblock::{LABEL_BYTES, UUID_BYTES};
-use types::answers::refuse;
+use types::answers::refuse_if;
 use types::{Refusal, units};
 use zones::Zone;
 
@@ -45,7 +45,7 @@ fn check_record(zone: &[u8], given: bool, unit: u64) -> Result<(), Refusal>
         return Err(Refusal::BadZone(0, None));
     }
     let fault = zones::zone_fault(zones::zone_at(zone, 0, given), 0, unit);
-    refuse(!zones::is_faultless(fault), Refusal::BadZone(0, fault))
+    refuse_if(!zones::is_faultless(fault), Refusal::BadZone(0, fault))
 }
 
 // The checks, in their order. Only a good block has sectors to check the record by.
@@ -66,9 +66,9 @@ fn check(
     if !units::good_block(block) {
         return Err(Refusal::BadBlock);
     }
-    refuse(out.len() != superblock::SUPER_BYTES, Refusal::SuperLength)?;
-    superblock::check_values(features, owner, group, mode)?;
-    refuse(label.len() > LABEL_BYTES, Refusal::LabelLength)?;
+    refuse_if(out.len() != superblock::SUPER_BYTES, Refusal::SuperLength)?;
+    superblock::value_checks(features, owner, group, mode)?;
+    refuse_if(label.len() > LABEL_BYTES, Refusal::LabelLength)?;
     check_record(zone, given, units::block_sectors(block))
 }
 

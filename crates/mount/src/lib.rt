@@ -15,7 +15,7 @@ ghost use Rattle.mount.specs.Facts.{Fits};
 use files::{Run, Walk};
 use options::Asked;
 use superblock::SuperBlock;
-use types::answers::refuse;
+use types::answers::refuse_if;
 use types::{Account, ErrorPolicy, Mount, MountOutcome, Refusal, Volume};
 use zones::Zone;
 
@@ -34,9 +34,9 @@ pub fn opening_check(
 ) -> Result<(), Refusal>
     ensures { result ≡ opening_check block found parsed }
 {
-    refuse(!types::units::good_block(block), Refusal::BadBlock)?;
+    refuse_if(!types::units::good_block(block), Refusal::BadBlock)?;
     found?;
-    refuse(bad_options(parsed), Refusal::BadOptions)
+    refuse_if(bad_options(parsed), Refusal::BadOptions)
 }
 
 // The refusal, or the numbers of files.
@@ -62,7 +62,7 @@ fn files_answer(
     let walk = report::check_report(b, types::units::block_sectors(block), aggregate)?;
     let cnv = files::cnv_files(walk);
     let seq = walk.seqs;
-    refuse((cnvs < cnv) | (seqs < seq), Refusal::TooFewRows)?;
+    refuse_if((cnvs < cnv) | (seqs < seq), Refusal::TooFewRows)?;
     Ok((cnv as u32, seq as u32))
 }
 

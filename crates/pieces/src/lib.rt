@@ -12,7 +12,7 @@ use intake::{Intake, Rule};
 use options::Asked;
 use receiving::Received;
 use superblock::SuperBlock;
-use types::answers::refuse;
+use types::answers::refuse_if;
 use types::{Account, Mount, Refusal, Volume, units};
 
 // A mount in pieces: what begin found, as a mount value of no files yet, whether neighbouring conventional zones are one file, and what
@@ -172,7 +172,7 @@ fn end_check(intake: Intake) -> Result<(), Refusal>
     ensures { result ≡ end_check intake }
 {
     intake.check?;
-    refuse(!receiving::is_complete(intake), Refusal::BadReport)
+    refuse_if(!receiving::is_complete(intake), Refusal::BadReport)
 }
 
 // The mount value, with so many files of each kind, of which so many are active.

@@ -5,7 +5,7 @@ ghost use Rattle.std.specs.Prelude.{◌≡◌, ◌<◌, ◌≤◌, length, drop}
 ghost use Rattle.superblock.specs.SuperBlock.{uuid_at, tail_place, bit, has_perm, wrong_magic, wrong_checksum, unknown_features, no_owner, wrong_perm, values_check, nonzero, id_of, mode_of, fields_of, fields_check, super_read, found_in, fields_in};
 
 use types::Refusal;
-use types::answers::refuse;
+use types::answers::{and_then, refuse_if};
 
 // The bytes of a super block, and where its fields stand.
 pub const SUPER_BYTES: usize = 4096;
@@ -116,14 +116,28 @@ fn wrong_perm(features: u64, perm: u32) -> bool
     has(features, HAS_PERM) & (perm > HIGHEST_MODE)
 }
 
-// The checks of the values that a formatter is given too.
+// The checks of the values that a formatter is given too. `?` goes on to the next where they are passed.
 #[tactic(auto, unfolding(types::specs::Verdicts::refuse))]
-pub fn check_values(features: u64, uid: u32, gid: u32, perm: u32) -> Result<(), Refusal>
+pub fn value_checks(features: u64, uid: u32, gid: u32, perm: u32) -> Result<(), Refusal>
     ensures { result ≡ values_check features uid gid perm (Ok tt) }
 {
-    refuse(unknown_features(features), Refusal::SuperFeatures)?;
-    refuse(no_owner(features, uid, gid), Refusal::SuperOwner)?;
-    refuse(wrong_perm(features, perm), Refusal::SuperPerm)
+    refuse_if(unknown_features(features), Refusal::SuperFeatures)?;
+    refuse_if(no_owner(features, uid, gid), Refusal::SuperOwner)?;
+    refuse_if(wrong_perm(features, perm), Refusal::SuperPerm)
+}
+
+// The same before what the rest finds: what they refuse, else that.
+#[tactic(auto, using(crate::proofs::Values::values_then))]
+pub fn check_values(
+    features: u64,
+    uid: u32,
+    gid: u32,
+    perm: u32,
+    rest: Result<(), Refusal>,
+) -> Result<(), Refusal>
+    ensures { result ≡ values_check features uid gid perm rest }
+{
+    and_then(value_checks(features, uid, gid, perm), rest)
 }
 
 // A byte from `from` on isn't zero.
@@ -176,15 +190,15 @@ fn check_fields(b: &[u8]) -> Result<(), Refusal>
     requires { tail_place ≤ length b.now }
     ensures { result ≡ fields_check b.now }
 {
-    refuse(wrong_magic(b), Refusal::SuperMagic)?;
-    refuse(wrong_checksum(b), Refusal::SuperChecksum)?;
-    check_values(
+    refuse_if(wrong_magic(b), Refusal::SuperMagic)?;
+    refuse_if(wrong_checksum(b), Refusal::SuperChecksum)?;
+    value_checks(
         wire::u64_at(b, FEATURES_AT),
         wire::u32_at(b, UID_AT),
         wire::u32_at(b, GID_AT),
         wire::u32_at(b, PERM_AT),
     )?;
-    refuse(nonzero_from(b, TAIL_AT), Refusal::SuperTail)
+    refuse_if(nonzero_from(b, TAIL_AT), Refusal::SuperTail)
 }
 
 // What the super block in `b` gives, checked in the order of the refusals' numbers, with 33 between 25 and 26.
@@ -192,7 +206,7 @@ fn check_fields(b: &[u8]) -> Result<(), Refusal>
 pub fn read_superblock(b: &[u8]) -> Result<SuperBlock, Refusal>
     ensures { result ≡ super_read b.now }
 {
-    refuse(b.len() != SUPER_BYTES, Refusal::SuperLength)?;
+    refuse_if(b.len() != SUPER_BYTES, Refusal::SuperLength)?;
     check_fields(b)?;
     Ok(fields_of(b))
 }

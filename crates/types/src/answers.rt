@@ -1,16 +1,34 @@
 // What each answer is in numbers; and a chain of checks, of which the first that fails decides.
 ghost use Rattle.std.specs.Prelude.{◌≡◌};
 ghost use Rattle.types.specs.Numbers.{plain, with_value, with_two, refusal_code, refusal_number, number_of};
-ghost use Rattle.types.specs.Verdicts.{refuse};
+ghost use Rattle.types.specs.Verdicts.{refuse, and_then};
 
 use crate::codes::fault_code;
 use crate::{Refusal, RefusalCode, Values};
 
 // One check of a chain: its refusal where it fails. `?` goes on to the next where it doesn't.
-pub fn refuse(fails: bool, x: Refusal) -> Result<(), Refusal>
+pub fn refuse_if(fails: bool, x: Refusal) -> Result<(), Refusal>
     ensures { result ≡ refuse fails x (Ok tt) }
 {
     if fails { Err(x) } else { Ok(()) }
+}
+
+// One check before what the rest finds: its refusal where it fails, else that.
+#[tactic(auto, unfolding(crate::specs::Verdicts::refuse))]
+pub fn refuse(fails: bool, x: Refusal, rest: Result<(), Refusal>) -> Result<(), Refusal>
+    ensures { result ≡ refuse fails x rest }
+{
+    refuse_if(fails, x)?;
+    rest
+}
+
+// Checks that have been made: what they refuse, else what the rest finds.
+#[tactic(auto, unfolding(crate::specs::Verdicts::and_then))]
+pub fn and_then(found: Result<(), Refusal>, rest: Result<(), Refusal>) -> Result<(), Refusal>
+    ensures { result ≡ and_then found rest }
+{
+    found?;
+    rest
 }
 
 // These three stay: the definitions have the same, and the table of refusals below reads as the papers' by them.

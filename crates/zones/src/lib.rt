@@ -4,7 +4,7 @@
 ghost use Rattle.std.specs.Prelude.{◌≡◌, true, cond, ◌+◌, ◌≤◌, ◌<◌, length};
 ghost use Rattle.types.specs.Blocks.{on_block, whole_blocks};
 ghost use Rattle.zones.specs.Zone.{zone_bytes, zone_at, conventional, sequential, condition_of, healthy, full, written_size, says_size, starts_at, good_length, good_capacity, good_end, good_type, conventional_condition, sequential_condition, good_condition, pointed, points_well, good_pointer};
-ghost use Rattle.zones.specs.Faults.{record_fault, zone_fault, is_faultless};
+ghost use Rattle.zones.specs.Faults.{fault_unless, record_fault, zone_fault, is_faultless};
 ghost use Rattle.zones.specs.Facts.{Bounded};
 
 use types::units::{LARGE_BLOCK, SECTOR_BYTES};
@@ -228,6 +228,14 @@ fn good_pointer(z: Zone, unit: u64) -> bool
     ensures { result ≡ good_pointer unit z }
 {
     !is_pointed(z) | points_well(z, unit)
+}
+
+// One test: what the rest finds where it is passed, else its fault.
+#[tactic(auto, unfolding(crate::specs::Faults::fault_unless))]
+pub fn fault_unless(passed: bool, fault: ZoneFault, rest: Option<ZoneFault>) -> Option<ZoneFault>
+    ensures { result ≡ fault_unless passed fault rest }
+{
+    if passed { rest } else { Some(fault) }
 }
 
 // The first fault of a record, wherever its zone starts. `unit` is the block in sectors.

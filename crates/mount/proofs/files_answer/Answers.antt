@@ -19,13 +19,13 @@ returns-in_err-walk c =
 pub overflow_cast-result : goal.overflow_cast-result
 overflow_cast-result c = omega (arith, c.cnv_files-cnv.ensures, flag_small c.in_ok-walk.walk.run.active, c.in_ok-walk.ensures.bounded.cnvs, c.in_ok-walk.ensures.bounded.number)
 
-pub returns-in_err-refuse : goal.returns-in_err-refuse
+pub returns-in_err-refuse_if : goal.returns-in_err-refuse_if
 unfolding answer_for
-returns-in_err-refuse c =
+returns-in_err-refuse_if c =
     let a = c.args in
-    let p = err_from_is_err_and c.from_residual-in_err-refuse.result c.from_residual-in_err-refuse.ensures.1 in
+    let p = err_from_is_err_and c.from_residual-in_err-refuse_if.result c.from_residual-in_err-refuse_if.ensures.1 in
     let read = rw c.block_sectors.ensures at (sym c.check_report.ensures.value ∙ c.in_ok-walk.was) in
-    let few = rw c.cnv_files-cnv.ensures at (sym c.refuse.ensures ∙ c.in_err-refuse.was) in
+    let few = rw c.cnv_files-cnv.ensures at (sym c.refuse_if.ensures ∙ c.in_err-refuse_if.was) in
     rw (p.1, p.2, ← files_answer a.block a.aggregate a.b.now a.cnvs a.seqs c.in_ok-walk.walk read, few)
 
 pub returns : goal.returns
@@ -33,5 +33,5 @@ unfolding answer_for
 returns c =
     let a = c.args in
     let read = rw c.block_sectors.ensures at (sym c.check_report.ensures.value ∙ c.in_ok-walk.was) in
-    let few = rw c.cnv_files-cnv.ensures at (sym c.refuse.ensures ∙ c.in_ok-refuse.was) in
+    let few = rw c.cnv_files-cnv.ensures at (sym c.refuse_if.ensures ∙ c.in_ok-refuse_if.was) in
     rw (c.cnv_files-cnv.ensures, ← files_answer a.block a.aggregate a.b.now a.cnvs a.seqs c.in_ok-walk.walk read, few)

@@ -1,5 +1,5 @@
 use Rattle.types.specs.Verdicts.{refuse}
-use Rattle.types.proofs.answers.refuse.Goals as goal
+use Rattle.types.proofs.answers.refuse_if.Goals as goal
 
 pub returns-then-fails : goal.returns-then-fails
 unfolding refuse
