@@ -4,8 +4,9 @@ use Prim.Native.Nat.{ℕ, ◌+◌, ◌-◌, ◌≤◌}
 use native.Mathlib.Omega.{arith}
 use mathlib.Core.Path.{◌≡◌, refl, ap, ◌∙◌}
 use mathlib.Core.List.{List, ◌++◌, append_assoc}
-use lib.ListN.{length, replicate, length-append, length-replicate}
+use lib.ListN.{length, drop, replicate, length-append, length-replicate}
 use lib.Seq.{sets, length-sets}
+use Rattle.std.proofs.lemmas.List.{drop-replicate}
 use Rattle.text.specs.Facts.{Put}
 use Rattle.text.proofs.Stores.{then}
 use Rattle.wire.specs.Le.{little}
@@ -17,6 +18,10 @@ use Rattle.format.specs.Format.{filled}
 
 pub filled-length : (label : List ℕ) → length label ≤ label_length → length (filled label) ≡ label_length
 filled-length label h = omega (arith, length-append label (replicate (label_length - length label) 0), length-replicate {A = ℕ} (label_length - length label) 0)
+
+-- a label in front of a field of zeros
+pub field_filled : (label : List ℕ) → label ++ drop (length label) (replicate label_length 0) ≡ filled label
+field_filled label = ap (λ (l : List ℕ). label ++ l) (drop-replicate (length label) label_length 0)
 
 -- THE PARTS, each put where the one before it ended
 
@@ -41,6 +46,17 @@ module _ (label uuid : List ℕ) where
   names_apart rest =
       append_assoc (little 4 magic) (little 4 0 ++ (label ++ uuid)) rest
       ∙ ap (λ (l : List ℕ). little 4 magic ++ l) (append_assoc (little 4 0) (label ++ uuid) rest ∙ ap (λ (l : List ℕ). little 4 0 ++ l) (append_assoc label uuid rest))
+
+-- a label that leaves room in its field, and zeros behind it
+pub filled_names_put : (label uuid : List ℕ) → length label ≤ label_length → (a b c d e f : List ℕ) → b ≡ sets a 0 (little 4 magic)
+    → c ≡ sets b 4 (little 4 0) → d ≡ sets c 8 label → e ≡ sets d (8 + length label) (replicate (label_length - length label) 0) → f ≡ sets e 72 uuid
+    → f ≡ sets a 0 (names (filled label) uuid)
+filled_names_put label uuid short a b c d e f p q r s t =
+    let end : ℕ = 8 + length label in
+    let rest : List ℕ = replicate (label_length - length label) 0 in
+    let name : Put c d 8 end label = record { bytes = r; place = refl } in
+    let zeros : Put d e end 72 rest = record { bytes = s; place = omega (arith, length-replicate {A = ℕ} (label_length - length label) 0) } in
+    names_put (filled label) uuid (filled-length label short) a b c e f p q (then name zeros).bytes t
 
 module _ (features owner group mode : ℕ) where
   abbrev numbers : List ℕ
@@ -111,3 +127,11 @@ module _ (label uuid : List ℕ) (features owner group mode : ℕ) (short : leng
   super_put a b c d e size p q r s =
       let whole = laid a b c d size p q r in
       s ∙ ap (λ (l : List ℕ). sets l 4 (little 4 (superblock_crc l))) whole ∙ sealed 0 _
+
+-- the same of a label that leaves room
+pub filled_super_put : (label uuid : List ℕ) (features owner group mode : ℕ) → length label ≤ label_length → length uuid ≡ uuid_length → (a b c d e : List ℕ)
+    → length a ≡ super_length → b ≡ sets a 0 (names (filled label) uuid) → c ≡ sets b 88 (numbers features owner group mode)
+    → d ≡ sets c tail_place (replicate (length c - tail_place) 0) → e ≡ sets d 4 (little 4 (superblock_crc d))
+    → e ≡ super_bytes (filled label) uuid features owner group mode
+filled_super_put label uuid features owner group mode short sixteen =
+    super_put (filled label) uuid features owner group mode (filled-length label short) sixteen

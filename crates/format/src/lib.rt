@@ -73,6 +73,7 @@ fn check(
 }
 
 // A label in its field: zeros fill what it leaves.
+#[tactic(auto, using(crate::proofs::Bytes::field_filled))]
 fn filled(label: &[u8]) -> [u8; LABEL_BYTES]
     requires { length label.now ≤ label_length }
     ensures { result ≡ filled label.now }

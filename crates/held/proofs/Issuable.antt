@@ -304,7 +304,7 @@ module _ (explicit : Bool) (block : ℕ) (k : FileKind) (r : Row) where
       let f : eqb (suc n) 0 ≡ false = ne_eqb (suc n) 0 (λ q. omega arith) in
       rw (e, f, not_last n c) (without (issues (close_row explicit Sequential (with_opens r 1)) c) (is_write r.access))
 
-  by_kind : openable r ≡ true → (j : CommandKind) (a l : ℕ) → let c : Command = record { kind = j; address = a; length = l } in again_by j c ≡ issuable explicit block k r c
+  pub by_kind : openable r ≡ true → (j : CommandKind) (a l : ℕ) → let c : Command = record { kind = j; address = a; length = l } in again_by j c ≡ issuable explicit block k r c
   unfolding issuable
   by_kind sure kind.Read a l = plain _ r.opens sure
   by_kind sure kind.Write a l = plain _ r.opens sure

@@ -44,7 +44,7 @@ pub fn opening_check(
 pub fn answer_for(found: Result<(), Refusal>, cnvs: u32, seqs: u32) -> Result<(u32, u32), Refusal>
     ensures { result ≡ answer_for found cnvs seqs }
 {
-    found?;
+    found?; // whichever refusal it is
     Ok((cnvs, seqs))
 }
 

@@ -61,6 +61,7 @@ fn with_piece(asked: Asked, piece: Option<Piece>) -> Option<Asked>
 }
 
 // The options after one more piece.
+#[tactic(auto, using(crate::proofs::Laws::empty_piece, crate::proofs::Laws::full_piece))]
 fn after_piece(so_far: Option<Asked>, piece: &[u8]) -> Option<Asked>
     ensures { result ≡ after_pieces so_far (piece.now ∷ []) }
 {
