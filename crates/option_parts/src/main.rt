@@ -35,17 +35,21 @@ fn next_text<R: Read>(input: &mut R, space: &mut [u8; ROOM]) -> io::Result<Readi
     Ok(reading)
 }
 
+// Each number is a write of its own: where one fails, those before it stand there.
 fn print_options(rt: &impl Print, asked: Option<Asked>) -> io::Result<()> {
     match asked {
         Some(asked) => {
-            let policy = u64::from(asked.policy);
-            println!(rt; "0 {policy} {}", asked.explicit as u64)
+            print!(rt; "0 ")?;
+            print!(rt; "{}", u64::from(asked.policy))?;
+            print!(rt; " ")?;
+            print!(rt; "{}", asked.explicit as u64)?;
         }
         None => {
             let code = types::answers::refusal_code(Refusal::BadOptions);
-            println!(rt; "{}", code.number)
+            print!(rt; "{}", code.number)?;
         }
     }
+    println!(rt)
 }
 
 // A proved loop has to end, and nothing says that the input does: the loop takes as many turns as no run uses up.

@@ -1,6 +1,8 @@
 // Runs the vectors of standard input, a line each, and writes what each answers. The file `stdin` says how a vector is written.
 #![tactic(auto)]
 
+ghost use Rattle.std.specs.Prelude.{◌≤◌, length, IfOk};
+
 mod image;
 mod lines;
 mod mounts;
@@ -12,6 +14,7 @@ mod superblocks;
 
 use image::IMAGE_BYTES;
 use lines::MOST;
+use printing::Output;
 use std::io;
 use std::io::{Read, Write};
 
@@ -95,7 +98,9 @@ fn run_lines<W: Write>(out: &mut W, text: &[u8]) -> io::Result<()> {
 }
 
 // Reads until `bytes` are full or the input has ended, and answers those that came: `read_exact` doesn't say how many, and `read_to_end` needs a heap.
-fn read_full<'a, R: Read>(input: &mut R, bytes: &'a mut [u8]) -> io::Result<&'a [u8]> {
+fn read_full<'a, R: Read>(input: &mut R, bytes: &'a mut [u8]) -> io::Result<&'a [u8]>
+    ensures { IfOk result (λ came. length came.now ≤ length bytes.old) }
+{
     let mut count = 0;
     while count < bytes.len() {
         let n = input.read(&mut bytes[count..])?;
@@ -108,7 +113,12 @@ fn read_full<'a, R: Read>(input: &mut R, bytes: &'a mut [u8]) -> io::Result<&'a 
 }
 
 fn main(rt: HostRuntime) -> io::Result<()> {
+    let mut out = Output {
+        stdout: rt.stdout(),
+        failed: Ok(()),
+    };
     let mut text = [0u8; TEXT_BYTES];
     let text = read_full(&mut rt.stdin(), &mut text)?;
-    run_lines(&mut io::writer(&rt), text)
+    run_lines(&mut out, text)?;
+    out.failed
 }

@@ -1,4 +1,6 @@
 // A vector of a mount: 0 and the numbers of files, or the refusal; the words of both tables afterwards, which are 7 before; and the account.
+ghost use Rattle.std.specs.Prelude.{◌≤◌, length, IfOk};
+
 use crate::image::IMAGE_BYTES;
 use crate::{image, lines, printing};
 use std::io;
@@ -41,7 +43,9 @@ fn lent<'a>(
     out: &mut impl Write,
     table: &'a mut [u64; TABLE_WORDS],
     words: u64,
-) -> io::Result<&'a mut [u64]> {
+) -> io::Result<&'a mut [u64]>
+    ensures { IfOk result (λ part. length part.now ≤ 19) }
+{
     if words <= TABLE_WORDS as u64 {
         return Ok(&mut table[..words as usize]);
     }

@@ -1,10 +1,44 @@
-// What vectors write: numbers, each after a space, and refusals.
+// What vectors write: numbers, each after a space, and refusals; and where they write it to.
+use std::fmt::Display;
 use std::io;
-use std::io::Write;
+use std::io::{Stdout, Write};
 use types::{Refusal, Values};
 
+// The longest piece that is written at once: a space and a number.
+const PIECE_BYTES: usize = 21;
+
+// Where vectors write to, and the first write that failed. What comes behind it is still tried: so it says of each that it was written.
+#[derive(Drop)]
+pub struct Output {
+    pub stdout: Stdout,
+    pub failed: io::Result<()>,
+}
+
+impl Write for Output {
+    fn write(&mut self, bytes: &[u8]) -> io::Result<usize> {
+        let written = self.stdout.write_all(bytes);
+        if self.failed.is_ok() {
+            self.failed = written;
+        }
+        Ok(bytes.len())
+    }
+
+    fn flush(&mut self) -> io::Result<()> {
+        Ok(())
+    }
+}
+
+// Writes a piece by one write: `write!` makes one of each of its parts.
+pub fn piece<D: Display + Drop>(out: &mut impl Write, value: D) -> io::Result<()> {
+    let mut room = [0u8; PIECE_BYTES];
+    let mut rest = &mut room[..];
+    write!(rest, "{value}")?;
+    let length = PIECE_BYTES.saturating_sub(rest.len());
+    out.write_all(&room[..length])
+}
+
 pub fn number(out: &mut impl Write, n: u64) -> io::Result<()> {
-    write!(out, " {n}")
+    piece(out, format_args!(" {n}"))
 }
 
 pub fn numbers(out: &mut impl Write, words: &[u64]) -> io::Result<()> {

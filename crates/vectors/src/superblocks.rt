@@ -8,7 +8,7 @@ use superblock::SuperBlock;
 fn print_uuid(out: &mut impl Write, bytes: [u8; 16]) -> io::Result<()> {
     write!(out, " ")?;
     for b in bytes {
-        write!(out, "{b:02x}")?;
+        printing::piece(out, format_args!("{b:02x}"))?;
     }
     Ok(())
 }
